@@ -1,0 +1,11 @@
+//! The plain data that all crates of the language share.
+#![tactic(auto)]
+
+pub mod limits;
+pub mod row;
+pub mod span;
+pub mod status;
+
+pub use row::{Bytes, Row};
+pub use span::Span;
+pub use status::Status;
