@@ -1,1 +1,3 @@
+pub mod Source
 pub mod Status
+pub mod View

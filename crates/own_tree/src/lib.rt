@@ -5,6 +5,7 @@ pub mod limits;
 pub mod row;
 pub mod span;
 pub mod status;
+pub mod tree;
 
 pub use row::{Bytes, Row};
 pub use span::Span;
