@@ -1,0 +1,16 @@
+pub mod Comments
+pub mod LawsAnswers
+pub mod LawsComments
+pub mod LawsLex
+pub mod LawsMarks
+pub mod LawsNames
+pub mod LawsNumbers
+pub mod LawsStarts
+pub mod LawsTexts
+pub mod LawsTokens
+pub mod LawsUnique
+pub mod Left
+pub mod Lengths
+pub mod Steps
+pub mod Texts
+pub mod Turns
