@@ -1,0 +1,7 @@
+pub mod Fault
+pub mod Reading
+pub mod Types
+pub mod Codes
+pub mod Entries
+pub mod Sections
+pub mod Answers
