@@ -1,0 +1,11 @@
+mod Acts
+mod Args
+mod Call
+mod Find
+mod Laid
+mod Nesting
+mod Room
+mod Runs
+mod Stack
+mod Template
+mod Zeros

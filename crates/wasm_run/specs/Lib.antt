@@ -1,0 +1,5 @@
+pub mod Begins
+pub mod Room
+pub mod Runs
+pub mod Start
+pub mod Views

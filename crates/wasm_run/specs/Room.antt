@@ -1,0 +1,31 @@
+-- How many layers there can be.
+use Rattle.std.specs.Prelude.{ℕ, ◌+◌, ◌≤◌, max, List, [], ◌∷◌}
+use Rattle.wasm_form.specs.declared.instr.Instr.{Instr}
+use Rattle.wasm_form.specs.declared.instr.Instr.TheOpen.{Instr-F}
+use Rattle.wasm_form.specs.declared.instr.Instr.TheOpen as F
+use Rattle.wasm_form.specs.Steps.{Layer, Label, Frame, Config, frames}
+use Rattle.wasm_form.specs.Within.{nest}
+
+-- how deep labels nest in an instruction, from the lists in it
+abbrev pub nest_of : Instr-F Instr → ℕ
+nest_of (F.Block r body) = nest body + 1
+nest_of (F.Loop r body) = nest body + 1
+nest_of (F.If r first second) = max (nest first) (nest second) + 1
+nest_of _ = 0
+
+-- the labels of the frame that runs
+abbrev pub labels : List Layer → ℕ
+labels [] = 0
+labels (Label below result target after ∷ ls) = labels ls + 1
+labels (Frame below result locals after ∷ ls) = 0
+
+abbrev pub Below : List Layer → Type 0
+Below [] = Unit {0}
+Below (Label below result target after ∷ ls) = (nest target + labels ls ≤ 1024) × (nest after + labels ls ≤ 1024) × Below ls
+Below (Frame below result locals after ∷ ls) = (nest after + labels ls ≤ 1024) × Below ls
+
+-- Labels nest at most 1,024 deep in each frame, and there are at most 1,001 frames.
+pub record HasRoom (c : Config) : Type 0 where
+  pub here : nest c.code + labels c.layers ≤ 1024
+  pub below : Below c.layers
+  pub few : frames c.layers ≤ 1001
