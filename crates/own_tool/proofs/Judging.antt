@@ -1,0 +1,218 @@
+-- From what the parts of a call answer to what the call answers.
+use Rattle.std.proofs.Common.{◌≡◌, ◌≢◌, ℕ, zero, suc, ◌<◌, ◌≤◌, inl, inr, List, [], length, take, drop, Some, None, refl, sym, ap, ◌∙◌, subst, append-nil, arith}
+use Rattle.std.proofs.lemmas.List.{take-append-drop, length-take-le}
+use Rattle.own_tree.specs.declared.status.Status.{Status}
+use Rattle.own_tree.specs.declared.status.Status.TheVariants as status
+use Rattle.own_tree.specs.Source.{File}
+use Rattle.own_io.specs.Outside as outside
+use Rattle.own_io.specs.Outside.{told_after}
+use Rattle.wasm_form.specs.Steps as machine
+use Rattle.wasm_form.specs.Steps.{machine_run}
+use Rattle.wasm_run.specs.declared.machine.Ran.TheVariants as ran
+use Rattle.wasm_run.specs.Runs.{RanAs}
+use Rattle.own_tool.specs.declared.judged.Ending.{Ending}
+use Rattle.own_tool.specs.declared.judged.Ending.TheVariants as ending
+use Rattle.own_tool.specs.declared.judged.Judged.{Judged}
+use Rattle.own_tool.specs.declared.judged.Judged.TheVariants as judged
+use Rattle.own_tool.specs.Form.{IsFirstForm}
+use Rattle.own_tool.specs.Run.{Outcome, Ended, Trapped, Cut, Wrong, run}
+use Rattle.own_tool.specs.Lower.{lowered}
+use Rattle.own_tool.specs.Words.{file_to_run}
+use Rattle.own_tool.specs.Texts.{usage_line, memory_line, read_line, too_long_line, not_built_line, trap_line}
+use Rattle.own_tool.specs.Headline.{DEFAULT_STEPS, MOST_BYTES, IsPrefix, IsProperPrefix, IsPaid, Follows, Told, IsContent, Accepts, FileAnswers, Answers}
+use Rattle.own_tool.specs.Saying.{Said, IsConcluded}
+use Rattle.own_tool.specs.Judged.{answer_of, line_of, EndsAs, IsJudged, ending_of}
+use Rattle.own_tool.proofs.Whole.{Agrees, file_agrees}
+
+-- ---- parts of a line
+
+pub take_is_front : (xs : List ℕ) (k : ℕ) → k < length xs → IsProperPrefix (take k xs) xs
+take_is_front xs k short = ((drop k xs, sym (take-append-drop k xs)), omega (arith, length-take-le k xs))
+
+pub cut_short : (answer : Status) (line : List ℕ) (k : ℕ) (old new : outside.Told) (faults : Type 0) → k < length line → new ≡ told_after old (take k line) → faults → Said answer line status.WriteFault old new faults
+cut_short answer line k old new faults short part fault = inr (refl, fault, take k line, take_is_front line k short, part)
+
+-- ---- the machine's run and the text's
+
+pub all_written : (outcome : Outcome) (output : List ℕ) (r : List ℕ × machine.Outcome) → Agrees outcome output r → r.0 ≡ output
+all_written Ended output r a = ap (λ (x : List ℕ × machine.Outcome). x.0) a.1
+all_written (Trapped code at) output r a = ap (λ (x : List ℕ × machine.Outcome). x.0) a
+all_written Cut output r a = absurd a
+all_written Wrong output r a = absurd a
+
+pub has_ended : (outcome : Outcome) (output : List ℕ) (r : List ℕ × machine.Outcome) (steps : ℕ) → Agrees outcome output r → r.1 ≡ machine.Ended steps → outcome ≡ Ended
+has_ended Ended output r steps a e = refl
+has_ended (Trapped code at) output r steps a e = let f : r.1 ≡ machine.Trapped code at = ap (λ (x : List ℕ × machine.Outcome). x.1) a in absurd (cc)
+has_ended Cut output r steps a e = absurd a
+has_ended Wrong output r steps a e = absurd a
+
+pub has_trapped : (outcome : Outcome) (output : List ℕ) (r : List ℕ × machine.Outcome) (code at : ℕ) → Agrees outcome output r → r.1 ≡ machine.Trapped code at → outcome ≡ Trapped code at
+has_trapped Ended output r code at a e = let f : r.1 ≡ machine.Ended a.0 = ap (λ (x : List ℕ × machine.Outcome). x.1) a.1 in absurd (cc)
+has_trapped (Trapped c p) output r code at a e = let f : r.1 ≡ machine.Trapped c p = ap (λ (x : List ℕ × machine.Outcome). x.1) a in cc
+has_trapped Cut output r code at a e = absurd a
+has_trapped Wrong output r code at a e = absurd a
+
+pub never_running : (outcome : Outcome) (output : List ℕ) (r : List ℕ × machine.Outcome) → Agrees outcome output r → r.1 ≡ machine.Running → ⊥
+never_running Ended output r a e = let f : r.1 ≡ machine.Ended a.0 = ap (λ (x : List ℕ × machine.Outcome). x.1) a.1 in cc
+never_running (Trapped code at) output r a e = let f : r.1 ≡ machine.Trapped code at = ap (λ (x : List ℕ × machine.Outcome). x.1) a in cc
+never_running Cut output r a e = a
+never_running Wrong output r a e = a
+
+-- the run of a text of the form and the machine's, with the steps that a run has by default
+pub default_agrees : (text : List ℕ) (program : File) → IsFirstForm text program
+    → Agrees (run program [] DEFAULT_STEPS).outcome (run program [] DEFAULT_STEPS).output (machine_run (lowered program) [] DEFAULT_STEPS)
+default_agrees text program form = file_agrees text program [] 9223372036854775806 DEFAULT_STEPS form (omega arith)
+
+module _ (text : List ℕ) (program : File) (form : IsFirstForm text program) (old new : outside.Told) (faults faults' : ℕ) where
+  output_is : (machine_run (lowered program) [] DEFAULT_STEPS).0 ≡ (run program [] DEFAULT_STEPS).output
+  output_is = all_written (run program [] DEFAULT_STEPS).outcome (run program [] DEFAULT_STEPS).output (machine_run (lowered program) [] DEFAULT_STEPS) (default_agrees text program form)
+
+  pub ended_as : (steps : ℕ) → RanAs (ran.Ended steps) old new faults faults' (machine_run (lowered program) [] DEFAULT_STEPS) → EndsAs text ending.Done old new (outside.HasRisen faults faults')
+  ended_as steps r = (
+    program,
+    (run program [] DEFAULT_STEPS).output,
+    form,
+    r.1 ∙ ap (told_after old) output_is,
+    (has_ended (run program [] DEFAULT_STEPS).outcome (run program [] DEFAULT_STEPS).output (machine_run (lowered program) [] DEFAULT_STEPS) steps (default_agrees text program form) r.0, refl),
+  )
+
+  pub trapped_as : (code at : ℕ) → RanAs (ran.Trapped code at) old new faults faults' (machine_run (lowered program) [] DEFAULT_STEPS) → EndsAs text (ending.Trapped code at) old new (outside.HasRisen faults faults')
+  trapped_as code at r = (
+    program,
+    (run program [] DEFAULT_STEPS).output,
+    form,
+    r.1 ∙ ap (told_after old) output_is,
+    (has_trapped (run program [] DEFAULT_STEPS).outcome (run program [] DEFAULT_STEPS).output (machine_run (lowered program) [] DEFAULT_STEPS) code at (default_agrees text program form) r.0, refl),
+  )
+
+  pub running_as : RanAs ran.Running old new faults faults' (machine_run (lowered program) [] DEFAULT_STEPS) → EndsAs text ending.OutOfSteps old new (outside.HasRisen faults faults')
+  running_as r = never_running (run program [] DEFAULT_STEPS).outcome (run program [] DEFAULT_STEPS).output (machine_run (lowered program) [] DEFAULT_STEPS) (default_agrees text program form) r.0
+
+  pub faulted_as : RanAs ran.SinkFault old new faults faults' (machine_run (lowered program) [] DEFAULT_STEPS) → EndsAs text ending.SinkFault old new (outside.HasRisen faults faults')
+  faulted_as r = (r.0, (program, r.1.0, form, r.1.4, ((r.1.1, sym output_is ∙ r.1.2), rw (← output_is) r.1.3)))
+
+  -- what the machine answered, as what the text came to
+  pub ran_as : (r : ran.the_data) → RanAs r old new faults faults' (machine_run (lowered program) [] DEFAULT_STEPS) → EndsAs text (ending_of r) old new (outside.HasRisen faults faults')
+  ran_as (ran.Ended steps) r = ended_as steps r
+  ran_as (ran.Trapped code at) r = trapped_as code at r
+  ran_as ran.Running r = running_as r
+  ran_as ran.SinkFault r = faulted_as r
+
+-- ---- runs of a text of the form do not depend on how many turns there are beyond the first
+
+pub empty_prefix : (xs : List ℕ) → IsPrefix [] xs
+empty_prefix xs = (xs, refl)
+
+pub same_prefix : (xs : List ℕ) → IsPrefix xs xs
+same_prefix xs = ([], sym (append-nil xs))
+
+pub whole_follows : (program : File) → Follows program [] DEFAULT_STEPS (run program [] DEFAULT_STEPS).output
+unfolding run
+whole_follows program = record {
+  within = same_prefix (run program [] DEFAULT_STEPS).output;
+  reaches = reaches_whole program;
+}
+  where
+    reaches_whole : (p : File) (n : ℕ) → IsPaid DEFAULT_STEPS p n → IsPrefix (run p [] n).output (run p [] DEFAULT_STEPS).output
+    reaches_whole p zero paid = empty_prefix (run p [] DEFAULT_STEPS).output
+    reaches_whole p (suc n) paid = same_prefix (run p [] DEFAULT_STEPS).output
+
+module _ (folder : Told) (faults : Type 0) (file : List ℕ) where
+  accepts : (text : List ℕ) (program : File) (gained : List ℕ) → IsContent folder file text → length text ≤ MOST_BYTES → IsFirstForm text program → gained ≡ (run program [] DEFAULT_STEPS).output → Accepts folder file text program gained
+  accepts text program gained content short form whole = (content, (form, short), subst (Follows program [] DEFAULT_STEPS) (sym whole) (whole_follows program))
+
+  -- the answer that a run of a text of the form has, with its whole output
+  pub wanted : (text : List ℕ) (program : File) (outcome : Outcome) → IsContent folder file text → length text ≤ MOST_BYTES → IsFirstForm text program
+      → (run program [] DEFAULT_STEPS).outcome ≡ outcome → Agrees outcome (run program [] DEFAULT_STEPS).output (machine_run (lowered program) [] DEFAULT_STEPS)
+      → (answer : Status) × (words : List ℕ) × FileAnswers folder faults file answer (run program [] DEFAULT_STEPS).output words
+  wanted text program Ended content short form is a = (status.Done, [], (text, program, accepts text program _ content short form refl, record { outcome_is = is; output_is = refl }, refl))
+  wanted text program (Trapped code at) content short form is a = (status.Trapped, trap_line file text code at, (text, program, code, at, accepts text program _ content short form refl, record { outcome_is = is; output_is = refl }, refl))
+  wanted text program Cut content short form is a = absurd a
+  wanted text program Wrong content short form is a = absurd a
+
+  module _ (faults_of_out faults_of_err : Type 0) (words : List (List ℕ)) (named : file_to_run words ≡ Some file) where
+    -- an answer whose line was said whole
+    whole_answer : (answer : Status) (gained said : List ℕ) → FileAnswers folder faults file answer gained said → Answers folder faults faults_of_out faults_of_err words answer gained said
+    whole_answer status.Done gained said h = rw named h
+    whole_answer status.Refused gained said h = rw named h
+    whole_answer status.Usage gained said h = rw named h
+    whole_answer status.Trapped gained said h = rw named h
+    whole_answer status.OutOfSteps gained said h = rw named h
+    whole_answer status.Memory gained said h = rw named h
+    whole_answer status.ReadFault gained said h = rw named h
+    whole_answer status.WriteFault gained said h = absurd h
+    whole_answer status.BadModule gained said h = rw named h
+
+    abbrev Concludes : (k_old k_new e_old e_new : outside.Told) → Status → Type 0
+    Concludes k_old k_new e_old e_new result = (gained : List ℕ) × (said : List ℕ) × (k_new ≡ told_after k_old gained) × (e_new ≡ told_after e_old said) × Answers folder faults faults_of_out faults_of_err words result gained said
+
+    -- an answer, and its line whole or cut short
+    pub answered : (answer : Status) (gained line : List ℕ) (k_old k_new e_old e_new : outside.Told) (result : Status) → FileAnswers folder faults file answer gained line
+        → k_new ≡ told_after k_old gained → Said answer line result e_old e_new faults_of_err → Concludes k_old k_new e_old e_new result
+    answered answer gained line k_old k_new e_old e_new result h k (inl s) =
+        (gained, line, k, s.1, let P : Status → Type 0 = λ r. Answers folder faults faults_of_out faults_of_err words r gained line in subst P (sym s.0) (whole_answer answer gained line h))
+    answered answer gained line k_old k_new e_old e_new result h k (inr s) =
+        (gained, s.2, k, s.4, let P : Status → Type 0 = λ r. Answers folder faults faults_of_out faults_of_err words r gained s.2 in subst P (sym s.0) (answer, gained, line, rw named h, inr (s.1, refl, s.3)))
+
+    -- after a fault of the output nothing is said
+    pub cut_answered : (text : List ℕ) (program : File) (gained : List ℕ) (k_old k_new e_old e_new : outside.Told) (result : Status) → IsContent folder file text → length text ≤ MOST_BYTES → IsFirstForm text program
+        → faults_of_out → IsProperPrefix gained (run program [] DEFAULT_STEPS).output → k_new ≡ told_after k_old gained → Said status.WriteFault [] result e_old e_new faults_of_err → Concludes k_old k_new e_old e_new result
+    cut_answered text program gained k_old k_new e_old e_new result content short form fault front k (inl s) =
+        let w = wanted text program (run program [] DEFAULT_STEPS).outcome content short form refl (default_agrees text program form) in
+        (gained, [], k, s.1, let P : Status → Type 0 = λ r. Answers folder faults faults_of_out faults_of_err words r gained [] in subst P (sym s.0) (w.0, (run program [] DEFAULT_STEPS).output, w.1, rw named w.2, inl (fault, front, refl)))
+    cut_answered text program gained k_old k_new e_old e_new result content short form fault front k (inr s) = absurd (omega (arith, s.3.1))
+
+    module _ (k_old k_new e_old e_new : outside.Told) (result : Status) (nothing : told_after k_old [] ≡ k_old) where
+      unchanged : k_new ≡ k_old → k_new ≡ told_after k_old []
+      unchanged same = same ∙ sym nothing
+
+      text_concluded : (text : List ℕ) (end : Ending) → IsContent folder file text → length text ≤ MOST_BYTES → EndsAs text end k_old k_new faults_of_out
+          → Said (answer_of (judged.Ran text end)) (line_of file (judged.Ran text end)) result e_old e_new faults_of_err → Concludes k_old k_new e_old e_new result
+      text_concluded text ending.NotBuilt content short h s =
+          answered status.Refused [] (not_built_line file) k_old k_new e_old e_new result (refl, inl (text, content, short, (λ program a. h.1 program a.0), refl)) (unchanged h.0) s
+      text_concluded text ending.Done content short h s =
+          answered status.Done h.1 [] k_old k_new e_old e_new result (text, h.0, accepts text h.0 h.1 content short h.2 h.4.1, record { outcome_is = h.4.0; output_is = h.4.1 }, refl) h.3 s
+      text_concluded text (ending.Trapped code at) content short h s =
+          answered status.Trapped h.1 (trap_line file text code at) k_old k_new e_old e_new result (text, h.0, code, at, accepts text h.0 h.1 content short h.2 h.4.1, record { outcome_is = h.4.0; output_is = h.4.1 }, refl) h.3 s
+      text_concluded text ending.OutOfSteps content short h s = absurd h
+      text_concluded text ending.SinkFault content short h s = cut_answered text h.1.0 h.1.1 k_old k_new e_old e_new result content short h.1.2 h.0 h.1.4 h.1.3 s
+
+      -- what a file came to, and what was said of it
+      pub concluded : (j : Judged) → IsJudged folder faults file j k_old k_new faults_of_out → Said (answer_of j) (line_of file j) result e_old e_new faults_of_err → Concludes k_old k_new e_old e_new result
+      concluded judged.ReadFault h s = answered status.ReadFault [] (read_line file) k_old k_new e_old e_new result (h.1, refl, refl) (unchanged h.0) s
+      concluded judged.TooLong h s = answered status.Refused [] (too_long_line file) k_old k_new e_old e_new result (refl, inr (h.1, refl)) (unchanged h.0) s
+      concluded (judged.Ran text end) h s = text_concluded text end h.0 h.1 h.2 s
+
+      -- memory was refused before anything was written
+      pub without_memory : k_new ≡ k_old → Said status.Memory memory_line result e_old e_new faults_of_err → Concludes k_old k_new e_old e_new result
+      without_memory same s = answered status.Memory [] memory_line k_old k_new e_old e_new result (refl, inl refl) (unchanged same) s
+
+      -- memory was refused for the line, when the output stands
+      text_unsaid : (text : List ℕ) (end : Ending) → answer_of (judged.Ran text end) ≢ status.WriteFault → IsContent folder file text → length text ≤ MOST_BYTES → EndsAs text end k_old k_new faults_of_out
+          → Said status.Memory memory_line result e_old e_new faults_of_err → Concludes k_old k_new e_old e_new result
+      text_unsaid text ending.NotBuilt whole content short h s = without_memory h.0 s
+      text_unsaid text ending.Done whole content short h s =
+          answered status.Memory h.1 memory_line k_old k_new e_old e_new result (refl, inr (text, h.0, content, (h.2, short), h.4.1)) h.3 s
+      text_unsaid text (ending.Trapped code at) whole content short h s =
+          answered status.Memory h.1 memory_line k_old k_new e_old e_new result (refl, inr (text, h.0, content, (h.2, short), h.4.1)) h.3 s
+      text_unsaid text ending.OutOfSteps whole content short h s = absurd h
+      text_unsaid text ending.SinkFault whole content short h s = absurd (whole refl)
+
+      pub unsaid : (j : Judged) → answer_of j ≢ status.WriteFault → IsJudged folder faults file j k_old k_new faults_of_out → Said status.Memory memory_line result e_old e_new faults_of_err → Concludes k_old k_new e_old e_new result
+      unsaid judged.ReadFault whole h s = without_memory h.0 s
+      unsaid judged.TooLong whole h s = without_memory h.0 s
+      unsaid (judged.Ran text end) whole h s = text_unsaid text end whole h.0 h.1 h.2 s
+
+      -- what a file came to, however it was concluded
+      pub file_concluded : (j : Judged) → IsJudged folder faults file j k_old k_new faults_of_out → IsConcluded file j result e_old e_new faults_of_err → Concludes k_old k_new e_old e_new result
+      file_concluded j h (inl s) = concluded j h s
+      file_concluded j h (inr s) = unsaid j s.0 h s.1
+
+-- words that are no command
+pub usage_answered : (folder : Told) (faults faults_of_out faults_of_err : Type 0) (words : List (List ℕ)) (k e_old e_new : outside.Told) (result : Status) → file_to_run words ≡ None → told_after k [] ≡ k
+    → Said status.Usage usage_line result e_old e_new faults_of_err
+    → (gained : List ℕ) × (said : List ℕ) × (k ≡ told_after k gained) × (e_new ≡ told_after e_old said) × Answers folder faults faults_of_out faults_of_err words result gained said
+usage_answered folder faults faults_of_out faults_of_err words k e_old e_new result none nothing (inl s) =
+    ([], usage_line, sym nothing, s.1, let P : Status → Type 0 = λ r. Answers folder faults faults_of_out faults_of_err words r [] usage_line in subst P (sym s.0) (rw none (record { status_is = refl; gained_is = refl; said_is = refl })))
+usage_answered folder faults faults_of_out faults_of_err words k e_old e_new result none nothing (inr s) =
+    ([], s.2, sym nothing, s.4, let P : Status → Type 0 = λ r. Answers folder faults faults_of_out faults_of_err words r [] s.2 in subst P (sym s.0) (status.Usage, [], usage_line, rw none (record { status_is = refl; gained_is = refl; said_is = refl }), inr (s.1, refl, s.3)))

@@ -1,0 +1,14 @@
+pub mod FormComplete
+pub mod FormFacts
+pub mod FormLaws
+pub mod FormLoops
+pub mod FormNumbers
+pub mod FormSound
+pub mod Judging
+pub mod Limits
+pub mod LowerSteps
+pub mod Opcodes
+pub mod Paths
+pub mod Statements
+pub mod Sums
+pub mod Whole

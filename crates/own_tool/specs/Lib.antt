@@ -1,0 +1,9 @@
+pub mod Form
+pub mod FormReading
+pub mod Run
+pub mod Lower
+pub mod Words
+pub mod Texts
+pub mod Headline
+pub mod Saying
+pub mod Judged

@@ -1,0 +1,14 @@
+//! The top call of the program.
+#![tactic(auto)]
+
+mod form;
+mod judged;
+mod lower;
+mod texts;
+mod tool;
+mod words;
+
+pub use tool::swiftown;
+
+#[cfg(test)]
+mod tests;

@@ -1,0 +1,110 @@
+//! The lines of the error output.
+
+ghost use Rattle.std.specs.Prelude.{◌≡◌, ◌≤◌, ◌++◌, length, IfOk, OnOk, string_bytes};
+ghost use Rattle.std.specs.Fmt.{decimal};
+ghost use Rattle.own_report.specs.Place.{place_at};
+ghost use Rattle.own_tool.specs.Texts.{read_line, too_long_line, not_built_line, place_after, trap_after, trap_line, trap_text, steps_line};
+
+use own_report::{LineColumn, place_of};
+use std::alloc::{AllocError, Global};
+
+pub(crate) fn read_line(alloc: Global, file: &str) -> Result<String, AllocError>
+    ensures { IfOk result (λ line. string_bytes line ≡ read_line file.now) }
+{
+    format!(in alloc; "cannot read {file}\n")
+}
+
+pub(crate) fn too_long_line(alloc: Global, file: &str) -> Result<String, AllocError>
+    ensures { IfOk result (λ line. string_bytes line ≡ too_long_line file.now) }
+{
+    format!(in alloc; "{file}: error[M1]: text bytes: more than 1048576\n")
+}
+
+pub(crate) fn not_built_line(alloc: Global, file: &str) -> Result<String, AllocError>
+    ensures { IfOk result (λ line. string_bytes line ≡ not_built_line file.now) }
+{
+    format!(in alloc; "{file}: error[Z1]: not built yet\n")
+}
+
+pub(crate) fn steps_line(alloc: Global) -> Result<String, AllocError>
+    ensures { IfOk result (λ line. string_bytes line ≡ steps_line) }
+{
+    String::from_str(alloc, "out of steps\n")
+}
+
+/// The trap code of one level too many, which has no place.
+const TOO_MANY_LEVELS: u32 = 3;
+
+/// What a trap of a run is.
+fn trap_text(code: u32) -> &'static str
+    ensures { result.now ≡ trap_text code }
+{
+    match code {
+        1 => "arithmetic overflow",
+        2 => "division by zero",
+        3 => "too many levels",
+        _ => "range ends before it begins",
+    }
+}
+
+/// The place of an offset, which may lie past the end of the text.
+fn place_in(text: &[u8], at: u32) -> LineColumn
+    requires { length text.now ≤ 1048576 }
+    ensures { result ≡ place_at text.now at }
+{
+    let end = text.len() as u32;
+    if at <= end {
+        return place_of(text, at);
+    }
+    place_of(text, end)
+}
+
+/// Adds a number in decimal.
+fn push_number(alloc: Global, line: &mut String, number: u32) -> Result<(), AllocError>
+    ensures { OnOk result (string_bytes line.new ≡ string_bytes line.old ++ decimal number) }
+{
+    let digits = number.to_string(alloc)?;
+    line.push_str(digits.as_str())
+}
+
+/// Adds what a line says of a trap after its place.
+fn push_trap(alloc: Global, line: &mut String, code: u32, what: &str) -> Result<(), AllocError>
+    ensures { OnOk result (string_bytes line.new ≡ trap_after (string_bytes line.old) code what.now) }
+{
+    line.push_str(": trap ")?;
+    push_number(alloc, line, code)?;
+    line.push_str(": ")?;
+    line.push_str(what)?;
+    line.push_str("\n")
+}
+
+/// Adds a place.
+fn push_place(alloc: Global, line: &mut String, place: LineColumn) -> Result<(), AllocError>
+    ensures { OnOk result (string_bytes line.new ≡ place_after (string_bytes line.old) place) }
+{
+    line.push_str(":")?;
+    push_number(alloc, line, place.line)?;
+    line.push_str(":")?;
+    push_number(alloc, line, place.column)
+}
+
+/// The line of a trap at an offset of a text. One of code 3 has no place.
+pub(crate) fn trap_line(
+    alloc: Global,
+    file: &str,
+    text: &[u8],
+    code: u32,
+    at: u32,
+) -> Result<String, AllocError>
+    requires { length text.now ≤ 1048576 }
+    ensures { IfOk result (λ line. string_bytes line ≡ trap_line file.now text.now code at) }
+{
+    let mut line = String::from_str(alloc, file)?;
+    if code == TOO_MANY_LEVELS {
+        push_trap(alloc, &mut line, code, trap_text(code))?;
+        return Ok(line);
+    }
+    push_place(alloc, &mut line, place_in(text, at))?;
+    push_trap(alloc, &mut line, code, trap_text(code))?;
+    Ok(line)
+}

@@ -1,0 +1,244 @@
+//! The top call.
+
+ghost use Rattle.std.specs.Prelude.{◌≡◌, ◌≢◌, ℕ, ◌≤◌, ◌<◌, ◌⊎◌, List, [], length, map, string_bytes, Some, None, IfOk, OnErr, Ok, Err};
+ghost use Rattle.own_io.specs.Outside.{told_after, HasRisen};
+ghost use Rattle.own_tool.specs.Judged.{answer_of, answer_of_ending, line_of, line_of_ending, ending_of, IsShort, TextEndsAs, FileIsJudged};
+ghost use Rattle.own_tool.specs.Words.{file_to_run};
+ghost use Rattle.own_tool.specs.Headline.{Answers};
+ghost use Rattle.own_tool.specs.Saying.{Said, IsConcluded};
+ghost use Rattle.own_tool.specs.Form.{IsFirstForm};
+ghost use Rattle.own_tree.specs.View.{tree_view};
+ghost use Rattle.wasm_form.specs.Within.{IsWithin};
+ghost use Rattle.wasm_form.specs.Steps.{machine_run};
+ghost use Rattle.wasm_run.specs.Runs.{RanAs};
+
+use crate::form::read_form;
+use crate::judged::{Ending, Judged};
+use crate::lower::lower;
+use crate::texts::{not_built_line, read_line, steps_line, too_long_line, trap_line};
+use crate::words::file_to_run;
+use own_io::{Folder, LoadError, Sink, send};
+use own_tree::Status;
+use own_tree::limits::MOST_TEXT_BYTES;
+use own_tree::tree::Tree;
+use std::alloc::{AllocError, Global};
+use wasm_form::Module;
+use wasm_run::{Machine, Ran};
+
+const USAGE_LINE: &[u8] = b"usage: swiftown COMMAND ARGUMENTS\n";
+
+const MEMORY_LINE: &[u8] = b"out of memory\n";
+
+/// The steps of a run, where the words name no other number.
+const DEFAULT_STEPS: u64 = 9_223_372_036_854_775_807;
+
+/// The status of what a text came to.
+fn answer_of_ending(ending: Ending) -> Status
+    ensures { result ≡ answer_of_ending ending }
+{
+    match ending {
+        Ending::NotBuilt => Status::Refused,
+        Ending::Done => Status::Done,
+        Ending::Trapped { .. } => Status::Trapped,
+        Ending::OutOfSteps => Status::OutOfSteps,
+        Ending::SinkFault => Status::WriteFault,
+    }
+}
+
+/// The status of what a file came to.
+fn answer_of(judged: &Judged) -> Status
+    ensures { result ≡ answer_of judged.now }
+{
+    match judged {
+        Judged::ReadFault => Status::ReadFault,
+        Judged::TooLong => Status::Refused,
+        Judged::Ran(_, ending) => answer_of_ending(*ending),
+    }
+}
+
+/// The line of what a text came to.
+fn line_of_ending(
+    alloc: Global,
+    file: &str,
+    text: &[u8],
+    ending: Ending,
+) -> Result<String, AllocError>
+    requires { length text.now ≤ 1048576 }
+    ensures line { IfOk result (λ line. string_bytes line ≡ line_of_ending file.now text.now ending) }
+    ensures whole { OnErr result (answer_of_ending ending ≢ Status.WriteFault) }
+{
+    match ending {
+        Ending::NotBuilt => not_built_line(alloc, file),
+        Ending::Done => Ok(String::new(alloc)),
+        Ending::Trapped { code, at } => trap_line(alloc, file, text, code, at),
+        Ending::OutOfSteps => steps_line(alloc),
+        Ending::SinkFault => Ok(String::new(alloc)),
+    }
+}
+
+/// The line of what a file came to. After a failed write there is none, and it takes no memory.
+fn line_of(alloc: Global, file: &str, judged: &Judged) -> Result<String, AllocError>
+    requires { IsShort judged.now }
+    ensures line { IfOk result (λ line. string_bytes line ≡ line_of file.now judged.now) }
+    ensures whole { OnErr result (answer_of judged.now ≢ Status.WriteFault) }
+{
+    match judged {
+        Judged::ReadFault => read_line(alloc, file),
+        Judged::TooLong => too_long_line(alloc, file),
+        Judged::Ran(text, ending) => line_of_ending(alloc, file, text.as_slice(), *ending),
+    }
+}
+
+/// What the machine answered, as what the text came to.
+fn ending_of(ran: Ran) -> Ending
+    ensures { result ≡ ending_of ran }
+{
+    match ran {
+        Ran::Ended { .. } => Ending::Done,
+        Ran::Trapped { code, at } => Ending::Trapped { code, at },
+        Ran::Running => Ending::OutOfSteps,
+        Ran::SinkFault => Ending::SinkFault,
+    }
+}
+
+/// Runs a module on an empty input, with the steps that a run has by default.
+fn run_module<K: Sink>(alloc: Global, code: &Module, out: &mut K) -> Result<Ran, AllocError>
+    requires { IsWithin code.now }
+    ensures count { K.faults out.old ≤ K.faults out.new }
+    ensures ok { IfOk result (λ ran. RanAs ran (K.written out.old) (K.written out.new) (K.faults out.old) (K.faults out.new) (machine_run code.now [] DEFAULT_STEPS)) }
+    ensures err { OnErr result (K.written out.new ≡ K.written out.old) }
+{
+    let machine = Machine::start(alloc, code, &[])?;
+    Ok(machine.run(DEFAULT_STEPS, out))
+}
+
+/// Runs the tree of a text.
+fn run_tree<K: Sink>(
+    alloc: Global,
+    text: &[u8],
+    tree: &Tree,
+    out: &mut K,
+) -> Result<Ending, AllocError>
+    requires { IsFirstForm text.now (tree_view tree.now) }
+    ensures count { K.faults out.old ≤ K.faults out.new }
+    ensures ran { TextEndsAs text.now result (K.written out.old) (K.written out.new) (HasRisen (K.faults out.old) (K.faults out.new)) }
+{
+    let code = lower(alloc, tree)?;
+    let ran = run_module(alloc, &code, out)?;
+    Ok(ending_of(ran))
+}
+
+/// Runs a text, if it is in the form that is built.
+fn run_text<K: Sink>(alloc: Global, text: &[u8], out: &mut K) -> Result<Ending, AllocError>
+    requires { length text.now ≤ 1048576 }
+    ensures count { K.faults out.old ≤ K.faults out.new }
+    ensures ran { TextEndsAs text.now result (K.written out.old) (K.written out.new) (HasRisen (K.faults out.old) (K.faults out.new)) }
+{
+    match read_form(alloc, text)? {
+        Some(tree) => run_tree(alloc, text, &tree, out),
+        None => Ok(Ending::NotBuilt),
+    }
+}
+
+/// Writes the line of an answer.
+fn say<E: Sink>(err: &mut E, line: &[u8], answer: Status) -> Status
+    ensures count { E.faults err.old ≤ E.faults err.new }
+    ensures said { Said answer line.now result (E.written err.old) (E.written err.new) (HasRisen (E.faults err.old) (E.faults err.new)) }
+{
+    match send(err, line) {
+        Ok(()) => answer,
+        Err(_) => Status::WriteFault,
+    }
+}
+
+/// Loads a file, and runs its text.
+fn judge<F: Folder, K: Sink>(
+    alloc: Global,
+    file: &str,
+    folder: &mut F,
+    out: &mut K,
+) -> Result<Judged, AllocError>
+    ensures folder_count { F.faults folder.old ≤ F.faults folder.new }
+    ensures count { K.faults out.old ≤ K.faults out.new }
+    ensures names { (name : List ℕ) → F.held folder.new name ≡ F.held folder.old name }
+    ensures short { IfOk result IsShort }
+    ensures judged { FileIsJudged (record { tells = F.tells folder.old; held = F.held folder.old }) (HasRisen (F.faults folder.old) (F.faults folder.new))
+        file.now result (K.written out.old) (K.written out.new) (HasRisen (K.faults out.old) (K.faults out.new)) }
+{
+    match folder.load(file, MOST_TEXT_BYTES) {
+        Ok(text) => {
+            let ending = run_text(alloc, text.as_slice(), out)?;
+            Ok(Judged::Ran(text, ending))
+        }
+        Err(LoadError::Failed) => Ok(Judged::ReadFault),
+        Err(LoadError::TooLong { .. }) => Ok(Judged::TooLong),
+        Err(LoadError::Memory) => Err(AllocError),
+    }
+}
+
+/// Says what a file came to.
+fn conclude<E: Sink>(alloc: Global, file: &str, judged: &Judged, err: &mut E) -> Status
+    requires { IsShort judged.now }
+    ensures count { E.faults err.old ≤ E.faults err.new }
+    ensures said { IsConcluded file.now judged.now result (E.written err.old) (E.written err.new) (HasRisen (E.faults err.old) (E.faults err.new)) }
+{
+    match line_of(alloc, file, judged) {
+        Ok(line) => say(err, line.as_bytes(), answer_of(judged)),
+        Err(_) => say(err, MEMORY_LINE, Status::Memory),
+    }
+}
+
+/// Runs a file, and says what it came to.
+fn run_file<F: Folder, K: Sink, E: Sink>(
+    alloc: Global,
+    file: &str,
+    folder: &mut F,
+    out: &mut K,
+    err: &mut E,
+) -> Status
+    ensures folder_count { F.faults folder.old ≤ F.faults folder.new }
+    ensures out_count { K.faults out.old ≤ K.faults out.new }
+    ensures err_count { E.faults err.old ≤ E.faults err.new }
+    ensures names { (name : List ℕ) → F.held folder.new name ≡ F.held folder.old name }
+    ensures answer { (words : List (List ℕ)) → file_to_run words ≡ Some file.now → (gained : List ℕ) × (said : List ℕ)
+        × (K.written out.new ≡ told_after (K.written out.old) gained) × (E.written err.new ≡ told_after (E.written err.old) said)
+        × Answers (record { tells = F.tells folder.old; held = F.held folder.old }) (HasRisen (F.faults folder.old) (F.faults folder.new))
+        (HasRisen (K.faults out.old) (K.faults out.new)) (HasRisen (E.faults err.old) (E.faults err.new)) words result gained said }
+{
+    match judge(alloc, file, folder, out) {
+        Ok(judged) => conclude(alloc, file, &judged, err),
+        Err(_) => say(err, MEMORY_LINE, Status::Memory),
+    }
+}
+
+/// Does what the words of the command line say: `run FILE` runs the text that the folder holds under FILE.
+///
+/// The output of the run goes to `out`, and what is said of the call to `err`. A text is run where it has at
+/// most 1,048,576 bytes and is in the first form; each other one is refused.
+pub fn swiftown<F: Folder, K: Sink, E: Sink>(
+    alloc: Global,
+    words: &[String],
+    folder: &mut F,
+    out: &mut K,
+    err: &mut E,
+) -> Status
+    // What is answered, and what the two sinks gained.
+    ensures answer { (gained : List ℕ) × (said : List ℕ)
+        × (K.written out.new ≡ told_after (K.written out.old) gained) × (E.written err.new ≡ told_after (E.written err.old) said)
+        × Answers (record { tells = F.tells folder.old; held = F.held folder.old }) (HasRisen (F.faults folder.old) (F.faults folder.new))
+        (HasRisen (K.faults out.old) (K.faults out.new)) (HasRisen (E.faults err.old) (E.faults err.new)) (map string_bytes words.now) result gained said }
+    // Every name of the folder is as before.
+    ensures names { (name : List ℕ) → F.held folder.new name ≡ F.held folder.old name }
+    // Words that are no command leave the folder and the output alone.
+    ensures folder_alone { file_to_run (map string_bytes words.now) ≡ None → folder.new ≡ folder.old }
+    ensures out_alone { file_to_run (map string_bytes words.now) ≡ None → out.new ≡ out.old }
+
+    ensures folder_count { F.faults folder.old ≤ F.faults folder.new }
+    ensures out_count { K.faults out.old ≤ K.faults out.new }
+    ensures err_count { E.faults err.old ≤ E.faults err.new }
+{
+    match file_to_run(words) {
+        Some(file) => run_file(alloc, file, folder, out, err),
+        None => say(err, USAGE_LINE, Status::Usage),
+    }
+}
