@@ -1,5 +1,5 @@
 -- Reading instructions one after the other, as the loop does.
-use Rattle.std.proofs.Common.{◌≡◌, ℕ, zero, suc, ◌+◌, ◌≤◌, ◌<◌, Bool, cond, true, false, List, [], ◌∷◌, ◌++◌, length, Option, Result, Ok, Err, refl, sym, ap, ◌∙◌, append_assoc, arith}
+use Rattle.std.proofs.Common.{◌≡◌, ℕ, zero, suc, ◌+◌, ◌≤◌, ◌<◌, cond, true, false, List, [], ◌∷◌, ◌++◌, length, Option, Result, Ok, Err, refl, sym, ap, ◌∙◌, append_assoc, arith}
 use Rattle.std.specs.Prelude.{◌==◌}
 use Rattle.std.proofs.lemmas.List.{append-nil}
 use Rattle.wasm_form.specs.declared.instr.Instr.{Instr}
@@ -13,8 +13,8 @@ use Rattle.wasm_read.specs.declared.fault.Stop.TheVariants as stop
 use Rattle.wasm_read.specs.Fault.{kind_of}
 use Rattle.wasm_read.specs.Reading.{◌>>=◌, FailsAs, end_at}
 use Rattle.wasm_read.specs.Types.{block_type_at}
-use Rattle.wasm_read.specs.Codes.{Coded, stops_at, plain_by, nested_with, closed_with, empty_end, second_with, sides_with, with_label, instr_by, instr_with, code_with, code_at, code_all}
-use Rattle.wasm_read.proofs.Leads.{Leads, LeadsByte, done, leads_ok, leads_err, leads_more, leads_then, leads_if, byte_then, end_leads, plain_leads, block_type_leads}
+use Rattle.wasm_read.specs.Codes.{Coded, stops_at, nested_with, closed_with, second_with, sides_with, with_label, instr_with, code_with, code_at, code_all}
+use Rattle.wasm_read.proofs.Leads.{Leads, done, leads_ok, leads_err, leads_then, leads_if, byte_then, end_leads, plain_leads, block_type_leads}
 
 -- ---- the fuel does not matter
 

@@ -1,6 +1,5 @@
 -- The loop over custom sections.
-use Rattle.std.proofs.Common.{◌≡◌, ℕ, zero, suc, ◌≤◌, ◌<◌, true, false, List, [], ◌∷◌, length, Result, Ok, Err, refl, sym, ap, ◌∙◌, arith}
-use Rattle.wasm_read.specs.declared.fault.Fault.{Fault}
+use Rattle.std.proofs.Common.{◌≡◌, ℕ, zero, suc, ◌≤◌, ◌<◌, true, false, List, [], ◌∷◌, length, Ok, Err, refl, sym, ◌∙◌, arith}
 use Rattle.wasm_read.specs.declared.fault.Stop.{Stop}
 use Rattle.wasm_read.specs.declared.fault.Stop.TheVariants as stop
 use Rattle.wasm_read.specs.Fault.{kind_of}

@@ -1,20 +1,17 @@
 -- What readers leave: never more than they were given.
-use Rattle.std.proofs.Common.{◌≡◌, ℕ, zero, suc, ◌+◌, ◌-◌, ◌*◌, ◌^◌, ◌≤◌, ◌<◌, Bool, cond, true, false, List, [], ◌∷◌, ◌++◌, length, Option, Some, None, Result, Ok, Err, refl, sym, ap, subst, ◌∙◌, arith}
+use Rattle.std.proofs.Common.{◌≡◌, ℕ, zero, suc, ◌-◌, ◌≤◌, ◌<◌, Bool, cond, true, false, List, [], ◌∷◌, ◌++◌, length, Option, Some, None, Result, Ok, Err, refl, arith}
 use Rattle.std.specs.Prelude.{nat_lt, ◌==◌, IfOk}
 use Rattle.wasm_form.specs.declared.instr.Instr.{Instr, roll-Instr}
 use Rattle.wasm_form.specs.declared.instr.Instr.TheOpen as F
-use Rattle.wasm_form.specs.declared.instr.MemArg.{MemArg}
 use Rattle.wasm_form.specs.declared.types.ValueType.{ValueType}
-use Rattle.wasm_form.specs.declared.types.ValueType.TheVariants.{I32, I64}
 use Rattle.wasm_form.specs.declared.limits.ModuleLimit.TheVariants as limit
-use Rattle.wasm_form.specs.declared.limits.Outside.TheVariants.{Float}
 use Rattle.wasm_form.specs.Tables.{is_float, is_between, numeric_of, access_of}
 use Rattle.wasm_read.specs.declared.fault.Fault.{Fault}
-use Rattle.wasm_read.specs.declared.fault.Fault.TheVariants.{NotModule, OutsideProfile, Limit}
+use Rattle.wasm_read.specs.declared.fault.Fault.TheVariants.{NotModule, Limit}
 use Rattle.wasm_read.specs.declared.fault.Stop.{Stop}
-use Rattle.wasm_read.specs.Reading.{◌>>=◌, Reader, Gives, number_at, last_of, or_fault, u32_at, list_at, count_at, counted, end_at, zero_at}
+use Rattle.wasm_read.specs.Reading.{◌>>=◌, Reader, Gives, number_at, last_of, or_fault, u32_at, list_at, count_at, end_at, zero_at}
 use Rattle.wasm_read.specs.Types.{value_type_by, block_type_at}
-use Rattle.wasm_read.specs.Codes.{of_number, labels_at, br_table_at, call_indirect_at, control_by, variable_of, variable_by, access_at, constant_by, plain_by}
+use Rattle.wasm_read.specs.Codes.{of_number, labels_at, br_table_at, call_indirect_at, control_by, variable_by, access_at, constant_by, plain_by}
 
 -- what is left is shorter than n
 pub record Leads {A : Type 0} (n : ℕ) (r : Result (A × List ℕ) Fault) : Type 0 where

@@ -5,3 +5,5 @@ pub mod Leads
 pub mod CodeLoop
 pub mod Customs
 pub mod Numbers
+pub mod Exact
+pub mod ExactTypes

@@ -1,5 +1,5 @@
 -- A loop that reads one element after the other.
-use Rattle.std.proofs.Common.{◌≡◌, ℕ, suc, ◌-◌, ◌+◌, ◌≤◌, ◌<◌, List, [], ◌∷◌, ◌++◌, Option, Some, None, Result, Ok, Err, refl, sym, ap, ◌∙◌, arith}
+use Rattle.std.proofs.Common.{◌≡◌, ℕ, suc, ◌-◌, ◌+◌, ◌≤◌, ◌<◌, List, [], ◌∷◌, ◌++◌, Result, Ok, Err, refl, sym, ◌∙◌, arith}
 use Rattle.std.specs.List.{sum_by}
 use Rattle.std.proofs.lemmas.List.Sums.{sum_by-append}
 use Rattle.wasm_form.specs.declared.module.LocalGroup.{LocalGroup}
@@ -7,7 +7,7 @@ use Rattle.wasm_read.specs.declared.fault.Fault.{Fault}
 use Rattle.wasm_read.specs.declared.fault.Stop.{Stop}
 use Rattle.wasm_read.specs.declared.fault.Stop.TheVariants as stop
 use Rattle.wasm_read.specs.Fault.{kind_of}
-use Rattle.wasm_read.specs.Reading.{◌>>=◌, Reader, FailsAs, list_at}
+use Rattle.wasm_read.specs.Reading.{Reader, FailsAs, list_at}
 
 pub goes_on : {A : Type 0} (one : List A → Reader A) (before : List A) (count i : ℕ) (bytes : List ℕ) (x : A) (after : List ℕ) (whole : Result (List A × List ℕ) Fault) → i < count → one before bytes ≡ Ok (x, after)
     → list_at one before (count - i) bytes ≡ whole → list_at one (before ++ x ∷ []) (count - (i + 1)) after ≡ whole

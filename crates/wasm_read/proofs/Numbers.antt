@@ -1,13 +1,11 @@
 -- A number that is read is spelled so, and one that is spelled so is read, whatever follows.
-use Rattle.std.proofs.Common.{◌≡◌, ℕ, suc, ◌+◌, ◌-◌, ◌*◌, ◌^◌, ◌<◌, ◌≤◌, Bool, true, false, cond, ltb, leb, List, [], ◌∷◌, ◌++◌, get_or, Option, Some, None, Result, Ok, Err, refl, sym, ap, subst, ◌∙◌, arith, ◌⊎◌, inl, inr}
-use Rattle.std.specs.Prelude.{nat_lt, nat_le}
+use Rattle.std.proofs.Common.{◌≡◌, ℕ, suc, ◌+◌, ◌-◌, ◌*◌, ◌^◌, ◌<◌, ◌≤◌, Bool, true, false, cond, ltb, leb, List, [], ◌∷◌, ◌++◌, get_or, Option, Some, None, Result, Ok, Err, refl, sym, ap, subst, arith, ◌⊎◌, inl, inr}
 use Rattle.std.proofs.lemmas.Bool.{lt-ltb, le-ltb, ltb-true, ltb-false, leb-true, le-leb}
 use Rattle.std.proofs.Math.Pow.{pow_mono}
 use Rattle.wasm_form.specs.Leb.{IsLast, IsNumber}
 use Rattle.wasm_read.specs.declared.fault.Fault.{Fault}
-use Rattle.wasm_read.specs.declared.fault.Fault.TheVariants.{NotModule}
 use Rattle.wasm_read.specs.Reading.{◌>>=◌, number_at, last_of, or_fault}
-use Rattle.wasm_read.proofs.Leads.{done, ok_is}
+use Rattle.wasm_read.proofs.Leads.{ok_is}
 
 -- a front of the bytes is spelled so, and the others follow
 pub record Spelled {A : Type 0} (P : List ℕ → A → Type 0) (bytes : List ℕ) (x : A × List ℕ) : Type 0 where
