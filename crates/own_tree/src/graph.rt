@@ -15,6 +15,7 @@ pub struct Node {
     pub next: Row<u32>,
 }
 
+/// The flow graph of a body. Its walks from the entry are the ways through the body.
 #[derive(Debug, Drop)]
 pub struct Graph {
     pub nodes: Row<Node>,
@@ -31,6 +32,7 @@ pub struct Maker {
     pub live: bool,
 }
 
+/// The makers of the leaves of a body.
 #[derive(Debug, Drop)]
 pub struct Makers {
     /// The leaves of the bindings that the body declares, in order.

@@ -31,6 +31,7 @@ pub struct Op {
     pub node: u32,
 }
 
+/// The ops of a body, with its branches, loops, scopes and ways out.
 #[derive(Drop)]
 pub enum OpTree {
     Op(Op),

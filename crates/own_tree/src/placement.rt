@@ -29,6 +29,7 @@ pub struct Plan {
     pub how: How,
 }
 
+/// The flags of a program, and what becomes of each leaf at each End and Assign.
 #[derive(Debug, Drop)]
 pub struct Placement {
     pub flags: Row<Flag>,

@@ -26,6 +26,7 @@ pub struct TypedPath {
     pub place: Place,
 }
 
+/// A comparison of two `Int` or, by equality alone, of two `Bool`.
 #[derive(Clone, Copy, Debug, PartialEq, Eq)]
 pub enum Comparison {
     Equal,
@@ -73,6 +74,7 @@ pub enum Passing {
     Closure,
 }
 
+/// An expression.
 #[derive(Drop)]
 pub enum TypedExpr {
     Number(At, i64),
@@ -108,6 +110,7 @@ pub enum TypedExpr {
     Function(At, u32),
 }
 
+/// A statement.
 #[cycle(typed)]
 #[derive(Drop)]
 pub enum TypedStmt {
@@ -147,6 +150,7 @@ pub struct TypedClause {
     pub statements: Items<TypedStmt>,
 }
 
+/// What stands before the `:` of a clause.
 #[derive(Drop)]
 pub enum TypedHead {
     Case(Row<TPattern>),
@@ -155,6 +159,7 @@ pub enum TypedHead {
     Default,
 }
 
+/// The statements between two braces, which are one node with them.
 #[cycle(typed)]
 #[derive(Drop)]
 pub struct TypedBlock {
