@@ -152,7 +152,6 @@ module _ (m : Module) (c : Config) {code : List Instr} {vs locals : List Value} 
   unfolding step leave
   leaves = refl
 
-
   calls : HasTrap m → (n number offset : ℕ) → Leads m (suc n) (on c (i.Call 5 ∷ code) (I32 offset ∷ I32 number ∷ vs) locals) (Traps number offset)
   unfolding step act call host two32 pop32 pop
   calls h n number offset = record { by = rw (out_call 5, h.1, h.2) refl }

@@ -1,4 +1,5 @@
 ghost use Rattle.std.specs.Prelude.{◌≡◌, ◌++◌, ◌∷◌, [], IfOk};
+ghost use Rattle.low_arith.specs.Checked.{IsChecked};
 ghost use Rattle.low_arith.specs.Code.{trap_if, sum_code, difference_code, product_tests, product_code, division_tests, negation_code, checked_code};
 
 use crate::places::{FIRST, OVERFLOW, SECOND, TRAP, ZERO_DIVISOR};
@@ -17,7 +18,11 @@ const MINUS_ONE: u64 = u64::MAX;
 fn trap_if(alloc: Global, code: u32, at: u32) -> Result<Instr, AllocError>
     ensures { IfOk result (λ instr. instr ≡ trap_if code at) }
 {
-    let trap = vec![in alloc; Instr::I32Const(code), Instr::I32Const(at), Instr::Call(TRAP)]?;
+    let trap = vec![in alloc;
+        Instr::I32Const(code),
+        Instr::I32Const(at),
+        Instr::Call(TRAP),
+    ]?;
     Ok(Instr::If(None, Items::from_vec(trap), Items::new(alloc)))
 }
 
@@ -170,9 +175,14 @@ fn code_of(alloc: Global, op: Arith, at: u32) -> Result<Vec<Instr>, AllocError>
     }
 }
 
-/// The instructions of an operation whose operator stands at the offset `at` of the source.
+/// The instructions of an operation on `Int` whose operator stands at the offset `at` of the source, in bytes
+/// from 0. They take its operands off the stack, and put the exact result there, or trap: with the code
+/// `OVERFLOW` where the result is no `Int`, also for the remainder of the least `Int` by -1, and with
+/// `ZERO_DIVISOR` where a divisor is 0. They use the locals `FIRST` and `SECOND` and the import `TRAP`.
+#[tactic(auto, using(crate::proofs::Operations::all_checked))]
 pub fn checked(alloc: Global, op: Arith, at: u32) -> Result<Row<Instr>, AllocError>
     ensures code { IfOk result (λ code. code ≡ checked_code op at) }
+    ensures exact { IfOk result (λ code. IsChecked op at code) }
 {
     Ok(Row::from_vec(code_of(alloc, op, at)?))
 }
