@@ -1,3 +1,4 @@
 pub mod Laws
 pub mod Numbers
 pub mod Operations
+pub mod Examples

@@ -3,5 +3,7 @@
 
 mod codes;
 pub mod places;
+#[cfg(test)]
+mod tests;
 
 pub use codes::checked;
