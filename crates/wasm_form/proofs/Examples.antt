@@ -5,6 +5,7 @@ use Rattle.std.specs.Fmt.{digits}
 use Rattle.wasm_form.specs.declared.instr.Instr.{Instr, roll-Instr, out-Instr}
 use Rattle.wasm_form.specs.declared.instr.Instr.TheOpen.{Instr-F}
 use Rattle.wasm_form.specs.declared.instr.Instr.TheOpen as F
+use Rattle.wasm_form.specs.declared.instr.MemArg.{MemArg}
 use Rattle.wasm_form.specs.declared.module.Module.{Module}
 use Rattle.wasm_form.specs.declared.module.HostCall.TheVariants.{WriteInt, WriteBool, WriteText, WriteByte, ReadInt, Trap}
 use Rattle.wasm_form.specs.declared.module.ExportKind.TheVariants as kind
@@ -337,3 +338,115 @@ pub indirect_calls :
     (machine_run (equipped (F.CallIndirect 0 ∷ [])) [] 9 ≡ ([], Trapped 18 0))
 unfolding machine_run started step act leave branch pop pop32 pop64 two32 two64 pushed given local_get local_set local_tee global_get global_set call call_defined called call_indirect type_of_function host address stored memory_size memory_grow select idiv_s idiv_u irem_s irem_u digits roll-Instr out-Instr denote.Hole.Carrier.roll denote.Hole.Carrier.out denote.Hole.Carrier.shown denote.Hole.Carrier.hidden Rattle.wasm_form.specs.declared.instr.Instr.TheBlock.shown-the_row-Instr-0
 indirect_calls = (refl, refl, refl, refl, refl, refl, refl, refl)
+
+-- ---- memory
+
+abbrev at_offset : ℕ → MemArg
+at_offset n = record { align = 0; offset = n }
+
+-- as program, with a memory of one page that begins with these bytes
+abbrev with_page : List ℕ → List (Instr-F Instr) → Module
+with_page bytes fs = record (program fs) {
+  memories = record { min = 1; max = None } ∷ [];
+  segments = record { offset = 0; bytes = bytes } ∷ [];
+}
+
+-- a number is read from bytes of which all are above 127, so that the sign is set
+abbrev load32 : (MemArg → Instr-F Instr) → ℕ → List ℕ × Outcome
+load32 op at = machine_run (with_page (200 ∷ 129 ∷ 130 ∷ 131 ∷ 132 ∷ 133 ∷ 134 ∷ 135 ∷ []) (F.I32Const at ∷ op (at_offset 1) ∷ F.I64ExtendI32U ∷ F.Call 0 ∷ [])) [] 9
+
+abbrev load64 : (MemArg → Instr-F Instr) → ℕ → List ℕ × Outcome
+load64 op at = machine_run (with_page (200 ∷ 129 ∷ 130 ∷ 131 ∷ 132 ∷ 133 ∷ 134 ∷ 135 ∷ 136 ∷ []) (F.I32Const at ∷ op (at_offset 1) ∷ F.Call 0 ∷ [])) [] 9
+
+-- a number of which all bits are set is written, and the eight bytes at 8 are read: only those that were written are set
+abbrev store32 : (MemArg → Instr-F Instr) → ℕ → List ℕ × Outcome
+store32 op at = machine_run (with_page [] (F.I32Const at ∷ F.I32Const 4294967295 ∷ op (at_offset 1) ∷ F.I32Const 8 ∷ F.I64Load (at_offset 0) ∷ F.Call 0 ∷ [])) [] 9
+
+abbrev store64 : (MemArg → Instr-F Instr) → ℕ → List ℕ × Outcome
+store64 op at = machine_run (with_page [] (F.I32Const at ∷ F.I64Const 18446744073709551615 ∷ op (at_offset 1) ∷ F.I32Const 8 ∷ F.I64Load (at_offset 0) ∷ F.Call 0 ∷ [])) [] 9
+
+-- each load
+pub loads :
+    (load32 F.I32Load 0 ≡ (codes "2223211137", Ended 5)) ×
+    (load32 F.I32Load8S 0 ≡ (codes "4294967169", Ended 5)) ×
+    (load32 F.I32Load8U 0 ≡ (codes "129", Ended 5)) ×
+    (load32 F.I32Load16S 0 ≡ (codes "4294935169", Ended 5)) ×
+    (load32 F.I32Load16U 0 ≡ (codes "33409", Ended 5)) ×
+    (load64 F.I64Load 0 ≡ (codes "-8608764254683430271", Ended 4)) ×
+    (load64 F.I64Load8S 0 ≡ (codes "-127", Ended 4)) ×
+    (load64 F.I64Load8U 0 ≡ (codes "129", Ended 4)) ×
+    (load64 F.I64Load16S 0 ≡ (codes "-32127", Ended 4)) ×
+    (load64 F.I64Load16U 0 ≡ (codes "33409", Ended 4)) ×
+    (load64 F.I64Load32S 0 ≡ (codes "-2071756159", Ended 4)) ×
+    (load64 F.I64Load32U 0 ≡ (codes "2223211137", Ended 4))
+unfolding machine_run started step act leave branch pop pop32 pop64 two32 two64 pushed given local_get local_set local_tee global_get global_set call call_defined called call_indirect type_of_function host address stored memory_size memory_grow select idiv_s idiv_u irem_s irem_u digits roll-Instr out-Instr denote.Hole.Carrier.roll denote.Hole.Carrier.out denote.Hole.Carrier.shown denote.Hole.Carrier.hidden Rattle.wasm_form.specs.declared.instr.Instr.TheBlock.shown-the_row-Instr-0
+loads = (refl, refl, refl, refl, refl, refl, refl, refl, refl, refl, refl, refl)
+
+-- each load of the last bytes, and one past
+pub loads_at_the_end :
+    (load32 F.I32Load 65531 ≡ (codes "0", Ended 5)) ×
+    (load32 F.I32Load 65532 ≡ ([], Trapped 11 0)) ×
+    (load32 F.I32Load8S 65534 ≡ (codes "0", Ended 5)) ×
+    (load32 F.I32Load8S 65535 ≡ ([], Trapped 11 0)) ×
+    (load32 F.I32Load8U 65534 ≡ (codes "0", Ended 5)) ×
+    (load32 F.I32Load8U 65535 ≡ ([], Trapped 11 0)) ×
+    (load32 F.I32Load16S 65533 ≡ (codes "0", Ended 5)) ×
+    (load32 F.I32Load16S 65534 ≡ ([], Trapped 11 0)) ×
+    (load32 F.I32Load16U 65533 ≡ (codes "0", Ended 5)) ×
+    (load32 F.I32Load16U 65534 ≡ ([], Trapped 11 0)) ×
+    (load64 F.I64Load 65527 ≡ (codes "0", Ended 4)) ×
+    (load64 F.I64Load 65528 ≡ ([], Trapped 11 0)) ×
+    (load64 F.I64Load8S 65534 ≡ (codes "0", Ended 4)) ×
+    (load64 F.I64Load8S 65535 ≡ ([], Trapped 11 0)) ×
+    (load64 F.I64Load8U 65534 ≡ (codes "0", Ended 4)) ×
+    (load64 F.I64Load8U 65535 ≡ ([], Trapped 11 0)) ×
+    (load64 F.I64Load16S 65533 ≡ (codes "0", Ended 4)) ×
+    (load64 F.I64Load16S 65534 ≡ ([], Trapped 11 0)) ×
+    (load64 F.I64Load16U 65533 ≡ (codes "0", Ended 4)) ×
+    (load64 F.I64Load16U 65534 ≡ ([], Trapped 11 0)) ×
+    (load64 F.I64Load32S 65531 ≡ (codes "0", Ended 4)) ×
+    (load64 F.I64Load32S 65532 ≡ ([], Trapped 11 0)) ×
+    (load64 F.I64Load32U 65531 ≡ (codes "0", Ended 4)) ×
+    (load64 F.I64Load32U 65532 ≡ ([], Trapped 11 0))
+unfolding machine_run started step act leave branch pop pop32 pop64 two32 two64 pushed given local_get local_set local_tee global_get global_set call call_defined called call_indirect type_of_function host address stored memory_size memory_grow select idiv_s idiv_u irem_s irem_u digits roll-Instr out-Instr denote.Hole.Carrier.roll denote.Hole.Carrier.out denote.Hole.Carrier.shown denote.Hole.Carrier.hidden Rattle.wasm_form.specs.declared.instr.Instr.TheBlock.shown-the_row-Instr-0
+loads_at_the_end = (refl, refl, refl, refl, refl, refl, refl, refl, refl, refl, refl, refl, refl, refl, refl, refl, refl, refl, refl, refl, refl, refl, refl, refl)
+
+-- each store, to the last bytes, and one past
+pub stores :
+    (store32 F.I32Store 7 ≡ (codes "4294967295", Ended 7)) ×
+    (store32 F.I32Store 65531 ≡ (codes "0", Ended 7)) ×
+    (store32 F.I32Store 65532 ≡ ([], Trapped 11 0)) ×
+    (store32 F.I32Store8 7 ≡ (codes "255", Ended 7)) ×
+    (store32 F.I32Store8 65534 ≡ (codes "0", Ended 7)) ×
+    (store32 F.I32Store8 65535 ≡ ([], Trapped 11 0)) ×
+    (store32 F.I32Store16 7 ≡ (codes "65535", Ended 7)) ×
+    (store32 F.I32Store16 65533 ≡ (codes "0", Ended 7)) ×
+    (store32 F.I32Store16 65534 ≡ ([], Trapped 11 0)) ×
+    (store64 F.I64Store 7 ≡ (codes "-1", Ended 7)) ×
+    (store64 F.I64Store 65527 ≡ (codes "0", Ended 7)) ×
+    (store64 F.I64Store 65528 ≡ ([], Trapped 11 0)) ×
+    (store64 F.I64Store8 7 ≡ (codes "255", Ended 7)) ×
+    (store64 F.I64Store8 65534 ≡ (codes "0", Ended 7)) ×
+    (store64 F.I64Store8 65535 ≡ ([], Trapped 11 0)) ×
+    (store64 F.I64Store16 7 ≡ (codes "65535", Ended 7)) ×
+    (store64 F.I64Store16 65533 ≡ (codes "0", Ended 7)) ×
+    (store64 F.I64Store16 65534 ≡ ([], Trapped 11 0)) ×
+    (store64 F.I64Store32 7 ≡ (codes "4294967295", Ended 7)) ×
+    (store64 F.I64Store32 65531 ≡ (codes "0", Ended 7)) ×
+    (store64 F.I64Store32 65532 ≡ ([], Trapped 11 0))
+unfolding machine_run started step act leave branch pop pop32 pop64 two32 two64 pushed given local_get local_set local_tee global_get global_set call call_defined called call_indirect type_of_function host address stored memory_size memory_grow select idiv_s idiv_u irem_s irem_u digits roll-Instr out-Instr denote.Hole.Carrier.roll denote.Hole.Carrier.out denote.Hole.Carrier.shown denote.Hole.Carrier.hidden Rattle.wasm_form.specs.declared.instr.Instr.TheBlock.shown-the_row-Instr-0
+stores = (refl, refl, refl, refl, refl, refl, refl, refl, refl, refl, refl, refl, refl, refl, refl, refl, refl, refl, refl, refl, refl)
+
+-- a page; it grows by 0 and not by 1; an address past 2^32; a text to the last byte and one past
+pub sizes :
+    (machine_run (with_page [] (F.MemorySize ∷ F.I64ExtendI32U ∷ F.Call 0 ∷ [])) [] 9 ≡ (codes "1", Ended 4)) ×
+    (machine_run (with_page [] (F.I32Const 0 ∷ F.MemoryGrow ∷ F.I64ExtendI32U ∷ F.Call 0 ∷ [])) [] 9 ≡ (codes "1", Ended 5)) ×
+    (machine_run (with_page [] (F.I32Const 1 ∷ F.MemoryGrow ∷ F.I64ExtendI32S ∷ F.Call 0 ∷ [])) [] 9 ≡ (codes "-1", Ended 5)) ×
+    (machine_run (with_page [] (F.I32Const 4294967295 ∷ F.I64Load8U (at_offset 4294967295) ∷ [])) [] 9 ≡ ([], Trapped 11 0)) ×
+    (machine_run (with_page (104 ∷ 105 ∷ []) (F.I32Const 0 ∷ F.I32Const 2 ∷ F.Call 2 ∷ [])) [] 9 ≡ (codes "hi", Ended 4)) ×
+    (machine_run (with_page [] (F.I32Const 65535 ∷ F.I32Const 1 ∷ F.Call 2 ∷ [])) [] 9 ≡ (0 ∷ [], Ended 4)) ×
+    (machine_run (with_page [] (F.I32Const 65535 ∷ F.I32Const 2 ∷ F.Call 2 ∷ [])) [] 9 ≡ ([], Trapped 11 0)) ×
+    (machine_run (with_page [] (F.I32Const 65536 ∷ F.I32Const 0 ∷ F.Call 2 ∷ [])) [] 9 ≡ ([], Ended 4)) ×
+    (machine_run (with_page [] (F.I32Const 65537 ∷ F.I32Const 0 ∷ F.Call 2 ∷ [])) [] 9 ≡ ([], Trapped 11 0))
+unfolding machine_run started step act leave branch pop pop32 pop64 two32 two64 pushed given local_get local_set local_tee global_get global_set call call_defined called call_indirect type_of_function host address stored memory_size memory_grow select idiv_s idiv_u irem_s irem_u digits roll-Instr out-Instr denote.Hole.Carrier.roll denote.Hole.Carrier.out denote.Hole.Carrier.shown denote.Hole.Carrier.hidden Rattle.wasm_form.specs.declared.instr.Instr.TheBlock.shown-the_row-Instr-0
+sizes = (refl, refl, refl, refl, refl, refl, refl, refl, refl)
