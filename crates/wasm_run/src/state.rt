@@ -220,6 +220,24 @@ impl<'m> State<'m> {
         Some((first, second))
     }
 
+    /// The instruction that comes next, which is taken, and the instructions from it on.
+    pub(crate) fn fetch(&mut self) -> Option<(&'m Instr, &'m [Instr])>
+        ensures here { IfSome result (λ p. self.old.code ≡ p.1.now) }
+        ensures next { IfSome result (λ p. self.old.code ≡ p.0.now ∷ self.new.code) }
+        ensures moved { IfSome result (λ p. self.new ≡ with_code self.new.code self.old) }
+        ensures none { IfNone result (self.old.code ≡ []) }
+        ensures same { IfNone result (self.new ≡ self.old) }
+    {
+        let here = self.code;
+        match here {
+            [] => None,
+            [instr, rest @ ..] => {
+                self.code = rest;
+                Some((instr, here))
+            }
+        }
+    }
+
     /// The instructions that come next.
     pub(crate) fn code(&self) -> &'m [Instr]
         ensures { result.now ≡ self.now.code }

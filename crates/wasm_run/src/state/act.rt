@@ -203,13 +203,9 @@ impl<'m> State<'m> {
         requires layers { length self.old.layers < MOST_LAYERS }
         ensures { Shows result self.new (step «module».now self.old) }
     {
-        let here = self.code;
-        match here {
-            [] => self.leave(),
-            [instr, rest @ ..] => {
-                self.code = rest;
-                self.act(module, instr, here)
-            }
+        match self.fetch() {
+            None => self.leave(),
+            Some((instr, here)) => self.act(module, instr, here),
         }
     }
 }
