@@ -23,7 +23,10 @@ fn main(rt: HostRuntime) -> anyhow::Result<()> {
     let words: Vec<String> = env::args(&rt)?.skip(1).collect(alloc)?;
     match words.as_slice() {
         [word, turns] => {
-            let turns = turns.as_str().parse::<u32>().context("the number of turns")?;
+            let turns = turns
+                .as_str()
+                .parse::<u32>()
+                .context("the number of turns")?;
             let module = benchmark(alloc, u64::from(turns))?;
             match word.as_str() {
                 "run" => run(&rt, &module),

@@ -6,8 +6,8 @@ use own_tree::Row;
 use sqlite_items::Items;
 use std::alloc::{AllocError, Global};
 use wasm_form::{
-    CodeEntry, Export, ExportKind, FunctionType, HostCall, Import, Instr, Limits, LocalGroup, MemArg,
-    Module, ValueType,
+    CodeEntry, Export, ExportKind, FunctionType, HostCall, Import, Instr, Limits, LocalGroup,
+    MemArg, Module, ValueType,
 };
 
 const ACCESS: MemArg = MemArg {
