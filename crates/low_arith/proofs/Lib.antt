@@ -2,3 +2,4 @@ pub mod Laws
 pub mod Numbers
 pub mod Operations
 pub mod Examples
+pub mod Runs
