@@ -3,3 +3,4 @@ pub mod Numbers
 pub mod Operations
 pub mod Examples
 pub mod Runs
+pub mod Results

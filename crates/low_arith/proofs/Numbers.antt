@@ -48,7 +48,7 @@ signed_fits a la = record { sfits = grind (arith, ints) }
 int_above : (n : ℕ) → n < 2 ^ 63 → is_int (pos n) ≡ true
 int_above n lt = grind (arith, ints)
 
-int_below : (n : ℕ) → n ≤ 2 ^ 63 → is_int (neg_ℤ (pos n)) ≡ true
+pub int_below : (n : ℕ) → n ≤ 2 ^ 63 → is_int (neg_ℤ (pos n)) ≡ true
 int_below zero le = refl
 int_below (suc n) le = grind (arith, ints)
 

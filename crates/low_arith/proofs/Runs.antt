@@ -1,7 +1,7 @@
 -- What several steps say of a run that begins with them.
-use Rattle.std.proofs.Common.{◌≡◌, ℕ, zero, suc, ◌+◌, List, [], refl, ap, sym, ◌∙◌, arith}
+use Rattle.std.proofs.Common.{◌≡◌, ℕ, zero, suc, ◌+◌, [], refl, ap, sym, ◌∙◌, arith}
 use Rattle.wasm_form.specs.declared.module.Module.{Module}
-use Rattle.wasm_form.specs.Steps.{Config, Next, Goes, Writes, Ends, Traps, Stuck, Outcome, Trapped, step, run, goes_on}
+use Rattle.wasm_form.specs.Steps.{Config, Next, Goes, Writes, Ends, Traps, Stuck, Trapped, step, run, goes_on}
 use Rattle.low_arith.specs.Checked.{steps, then_next}
 
 -- it goes on from where they lead
