@@ -1,9 +1,9 @@
 -- The shortest forms of numbers are forms of them.
-use Rattle.std.proofs.Common.{◌≡◌, ℕ, zero, suc, ◌+◌, ◌-◌, ◌*◌, ◌/◌, ◌%◌, ◌^◌, ◌<◌, ◌≤◌, Bool, true, false, cond, List, [], ◌∷◌, refl, sym, ap, subst, ◌∙◌, arith, inl, inr}
+use Rattle.std.proofs.Common.{◌≡◌, ℕ, zero, suc, ◌+◌, ◌-◌, ◌*◌, ◌/◌, ◌%◌, ◌^◌, ◌<◌, ◌≤◌, Bool, true, false, cond, List, [], ◌∷◌, refl, ap, subst, ◌∙◌, arith, inl, inr}
 use Rattle.std.proofs.Math.Pow.{pow_mono}
 use Rattle.std.proofs.lemmas.Bool.{cases_lt, lt-ltb, le-ltb}
 use Rattle.std.proofs.lemmas.Nat.{pow-add}
-use Rattle.wasm_form.specs.Leb.{IsLast, IsNumber, shortest_in, group_of, shortest_signed_in, unsigned_shortest, signed_shortest, i32_shortest, i64_shortest}
+use Rattle.wasm_form.specs.Leb.{IsNumber, shortest_in, group_of, shortest_signed_in, unsigned_shortest, signed_shortest, i32_shortest, i64_shortest}
 
 pow_split : (b : ℕ) → 7 ≤ b → 2 ^ b ≡ 128 * 2 ^ (b - 7)
 pow_split b le = let e : b ≡ 7 + (b - 7) = omega arith in ap (λ n. 2 ^ n) e ∙ pow-add 2 7 (b - 7)

@@ -3,8 +3,7 @@ use Rattle.std.proofs.Common.{◌≡◌, ℕ, ◌+◌, ◌≤◌, ◌<◌, max, 
 use Rattle.std.proofs.lemmas.List.{take_more, take_all}
 use Rattle.wasm_form.specs.declared.instr.Instr.{Instr, out-Instr}
 use Rattle.wasm_form.specs.Within.{nest, nest_one}
-use Rattle.wasm_run.specs.Room.{nest_of}
-use Rattle.wasm_run.proofs.Room.{nest_is}
+use Rattle.wasm_form.proofs.Nests.{nest_of, nest_is}
 
 nest-append : (is : List Instr) (i : Instr) → nest (is ++ i ∷ []) ≡ max (nest is) (nest_one i)
 nest-append [] i = omega arith

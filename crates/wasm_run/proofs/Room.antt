@@ -4,8 +4,7 @@ use Rattle.std.specs.Prelude.{slice_get, slice_set, ℤ}
 use Rattle.std.specs.Int.{Width, w8, w16, w32, w64, byte_len, cast_unsigned}
 use mir.Val.{bits}
 use Rattle.std.proofs.lemmas.Bool.{ltb-true, le-ltb}
-use Rattle.wasm_form.specs.declared.instr.Instr.{Instr, out-Instr, fold-Instr, fold_out-Instr}
-use Rattle.wasm_form.specs.declared.instr.Instr.TheFolds.{map-Instr}
+use Rattle.wasm_form.specs.declared.instr.Instr.{Instr, out-Instr}
 use Rattle.wasm_form.specs.declared.instr.Instr.TheOpen.{Instr-F}
 use Rattle.wasm_form.specs.declared.instr.Instr.TheOpen as F
 use Rattle.wasm_form.specs.declared.module.Module.{Module}
@@ -21,8 +20,9 @@ use Rattle.wasm_form.specs.declared.types.Value.{Value}
 use Rattle.wasm_form.specs.declared.types.Value.TheVariants.{I32, I64}
 use Rattle.wasm_form.specs.Integers.{idiv_s, idiv_u, irem_s, irem_u, extend_s}
 use Rattle.wasm_form.specs.Steps.{◌>>=◌, ◌>>-◌, ◌>>!◌, ◌or_else◌, settled, Config, Next, Goes, Writes, Ends, Traps, Stuck, Layer, Label, Frame, frames, operands, pushed, given, given_or_trap, pop, pop_in, word_of, long_of, pop32, pop64, two32, two64, first_of, with_values, with_locals, with_globals, with_memory, with_input, with_code, has_type, same_type, type_of_value, local_get, set_local, local_set, local_tee, global_get, global_set, select, entered, target_of, returned, jump, jump_with, branch, carried, result_of, leave, leave_in, exactly, number_at, with_number, first_limits, address, load, stored, store32, store64, memory_size, memory_grow, written_text, read_in, host, typed, called, framed, defined_type, call_defined, call_at, call, type_of_function, same_function_type, call_element, call_indirect, unary32, unary64, binary32, binary64, division32, division64, test32, test64, act_control, act_variable, act_load, act_store, act_test32, act_test64, act_arithmetic32, act_arithmetic64, act, at_code, step, started, main_code}
-use Rattle.wasm_form.specs.Within.{IsWithin, HasMain, FunctionIsWithin, count_locals, nest, nest_one, nest_layer}
-use Rattle.wasm_run.specs.Room.{HasRoom, Below, labels, nest_of}
+use Rattle.wasm_form.specs.Within.{IsWithin, HasMain, FunctionIsWithin, count_locals, nest, nest_one}
+use Rattle.wasm_form.proofs.Nests.{nest_of, nest_is}
+use Rattle.wasm_run.specs.Room.{HasRoom, Below, labels}
 
 abbrev some_of : {A : Type 0} → A → Option A
 some_of x = Some x
@@ -44,18 +44,6 @@ Keeps (Writes z d) = HasRoom d
 Keeps Ends = Unit {0}
 Keeps (Traps code at) = Unit {0}
 Keeps Stuck = Unit {0}
-
-nest_cases : (l : Instr-F Instr) → nest_layer (map-Instr Instr ℕ (fold-Instr ℕ nest_layer) l) ≡ nest_of l
-unfolding nest_one
-nest_cases (F.Block r body) = refl
-nest_cases (F.Loop r body) = refl
-nest_cases (F.If r first second) = refl
-nest_cases _ = refl
-
--- what the instruction's layer says of its nesting
-pub nest_is : (i : Instr) → nest_one i ≡ nest_of (out-Instr i)
-unfolding nest_one
-nest_is i = fold_out-Instr ℕ nest_layer i ∙ nest_cases (out-Instr i)
 
 -- the same place, with other values, locals, memory or input
 record Same (c d : Config) : Type 0 where

@@ -1,5 +1,5 @@
 -- The module of the tests is within the limits.
-use Rattle.std.proofs.Common.{◌≡◌, ℕ, zero, suc, ◌≤◌, List, [], ◌∷◌, Option, Some, None, codes, refl, subst, arith}
+use Rattle.std.proofs.Common.{◌≡◌, ℕ, zero, suc, ◌≤◌, List, [], ◌∷◌, Some, None, codes, refl, subst, arith}
 use Rattle.std.specs.Prelude.{slice_get}
 use Rattle.wasm_form.specs.declared.instr.Instr.{Instr}
 use Rattle.wasm_form.specs.declared.module.Module.{Module}

@@ -1,17 +1,7 @@
 -- How many layers there can be.
-use Rattle.std.specs.Prelude.{ℕ, ◌+◌, ◌≤◌, max, List, [], ◌∷◌}
-use Rattle.wasm_form.specs.declared.instr.Instr.{Instr}
-use Rattle.wasm_form.specs.declared.instr.Instr.TheOpen.{Instr-F}
-use Rattle.wasm_form.specs.declared.instr.Instr.TheOpen as F
+use Rattle.std.specs.Prelude.{ℕ, ◌+◌, ◌≤◌, List, [], ◌∷◌}
 use Rattle.wasm_form.specs.Steps.{Layer, Label, Frame, Config, frames}
 use Rattle.wasm_form.specs.Within.{nest}
-
--- how deep labels nest in an instruction, from the lists in it
-abbrev pub nest_of : Instr-F Instr → ℕ
-nest_of (F.Block r body) = nest body + 1
-nest_of (F.Loop r body) = nest body + 1
-nest_of (F.If r first second) = max (nest first) (nest second) + 1
-nest_of _ = 0
 
 -- the labels of the frame that runs
 abbrev pub labels : List Layer → ℕ

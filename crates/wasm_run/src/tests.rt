@@ -2,7 +2,7 @@ ghost use Rattle.std.specs.Prelude.{◌≡◌, ◌∷◌, [], ◌≤◌, None, I
 ghost use Rattle.wasm_form.specs.Within.{IsWithin, nest};
 ghost use Rattle.wasm_form.specs.declared.instr.Instr.{out-Instr};
 ghost use Rattle.wasm_form.specs.declared.types.ValueType.TheVariants as type;
-ghost use Rattle.wasm_run.specs.Room.{nest_of};
+ghost use Rattle.wasm_form.proofs.Nests.{nest_of};
 
 use crate::{Machine, Ran};
 use own_io::MemorySink;
@@ -113,6 +113,32 @@ fn writes_until_a_write_fails(rt: HostRuntime) -> Result<(), Fail> {
         let (got, written) = ran(rt.alloc(), fault)?;
         assert_eq!(rt; got, answer);
         assert_eq!(rt; written.as_slice(), text.as_bytes());
+    }
+    Ok(())
+}
+
+/// How a main runs for so many steps that pushes so many operands and then calls itself.
+fn dived(alloc: Global, pushes: u32, steps: u64) -> Result<Ran, Fail> {
+    let mut code = Vec::new(alloc);
+    for _ in 0..pushes {
+        code.push(Instr::I64Const(0))?;
+    }
+    code.push(Instr::Call(1))?;
+    let module = program(alloc, code)?.ok_or("labels nest")?;
+    let mut sink = MemorySink::new(alloc, 0, Row::new(alloc))?;
+    let machine = Machine::start(alloc, &module, &[])?;
+    Ok(machine.run(steps, &mut sink))
+}
+
+#[test]
+fn frames_and_operands_have_their_limits(rt: HostRuntime) -> Result<(), Fail> {
+    for (pushes, steps, answer) in [
+        (0, 1_000, Ran::Running),
+        (0, 1_001, Ran::Trapped { code: 3, at: 0 }),
+        (1_047, 2_000_000, Ran::Trapped { code: 3, at: 0 }),
+        (1_048, 2_000_000, Ran::Trapped { code: 17, at: 0 }),
+    ] {
+        assert_eq!(rt; dived(rt.alloc(), pushes, steps)?, answer);
     }
     Ok(())
 }

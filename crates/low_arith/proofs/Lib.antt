@@ -1,0 +1,6 @@
+pub mod Laws
+pub mod Numbers
+pub mod Operations
+pub mod Examples
+pub mod Runs
+pub mod Results

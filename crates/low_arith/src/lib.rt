@@ -1,0 +1,9 @@
+//! Checked arithmetic: the instructions that do an operation of `Int` exactly, or trap.
+#![tactic(auto)]
+
+mod codes;
+pub mod places;
+#[cfg(test)]
+mod tests;
+
+pub use codes::checked;
