@@ -1,9 +1,9 @@
 -- The shortest forms of numbers are forms of them.
-use Rattle.std.proofs.Common.{◌≡◌, ℕ, zero, suc, ◌+◌, ◌-◌, ◌*◌, ◌/◌, ◌%◌, ◌^◌, ◌<◌, ◌≤◌, Bool, true, false, cond, List, [], ◌∷◌, refl, sym, ap, subst, ◌∙◌, arith, inl, inr}
+use Rattle.std.proofs.Common.{◌≡◌, ℕ, zero, suc, ◌+◌, ◌-◌, ◌*◌, ◌/◌, ◌%◌, ◌^◌, ◌<◌, ◌≤◌, Bool, true, false, cond, List, [], ◌∷◌, refl, ap, subst, ◌∙◌, arith, inl, inr}
 use Rattle.std.proofs.Math.Pow.{pow_mono}
 use Rattle.std.proofs.lemmas.Bool.{cases_lt, lt-ltb, le-ltb}
 use Rattle.std.proofs.lemmas.Nat.{pow-add}
-use Rattle.wasm_form.specs.Leb.{IsLast, IsNumber, shortest_in, group_of, shortest_signed_in, unsigned_shortest, signed_shortest, i32_shortest, i64_shortest}
+use Rattle.wasm_form.specs.Leb.{IsNumber, shortest_in, group_of, shortest_signed_in, unsigned_shortest, signed_shortest, i32_shortest, i64_shortest}
 
 pow_split : (b : ℕ) → 7 ≤ b → 2 ^ b ≡ 128 * 2 ^ (b - 7)
 pow_split b le = let e : b ≡ 7 + (b - 7) = omega arith in ap (λ n. 2 ^ n) e ∙ pow-add 2 7 (b - 7)
@@ -16,9 +16,9 @@ few_bits : (b n : ℕ) → b ≤ 7 → n < 2 ^ b → n < 128
 few_bits b n le lt = let p : 2 ^ b ≤ 2 ^ 7 = pow_mono {i = b} {j = 7} le in omega (arith, p)
 
 -- one byte that goes on, before the bytes of the rest
-goes_on : (signed : Bool) (bits b high n : ℕ) (tail : List ℕ) → 128 ≤ b → b < 256 → 7 < bits → n + 128 ≡ b + 128 * high → IsNumber signed (bits - 7) tail high → IsNumber signed bits (b ∷ tail) n
-goes_on signed bits b high n [] lo hi many e h = absurd h
-goes_on signed bits b high n (c ∷ bs) lo hi many e h = (lo, hi, many, high, e, h)
+goes_on : (signed : Bool) (bits b high n : ℕ) (tail : List ℕ) → 128 ≤ b → 7 < bits → n + 128 ≡ b + 128 * high → IsNumber signed (bits - 7) tail high → IsNumber signed bits (b ∷ tail) n
+goes_on signed bits b high n [] lo many e h = absurd h
+goes_on signed bits b high n (c ∷ bs) lo many e h = (lo, many, high, e, h)
 
 shortest_number : (k bits n : ℕ) → 0 < bits → bits ≤ 7 * k → n < 2 ^ bits → IsNumber false bits (shortest_in k n) n
 unfolding shortest_in
@@ -31,7 +31,7 @@ shortest_number (suc k) bits n some few lt = elim (cases_lt n 128) [
             let p = pow_split bits (omega arith) in
             let rest : n / 128 < 2 ^ (bits - 7) = omega (arith, p) in
             let h = shortest_number k (bits - 7) (n / 128) (omega arith) (omega arith) rest in
-            rw (le-ltb n 128 large) (goes_on false bits (n % 128 + 128) (n / 128) n (shortest_in k (n / 128)) (omega arith) (omega arith) many (omega arith) h)
+            rw (le-ltb n 128 large) (goes_on false bits (n % 128 + 128) (n / 128) n (shortest_in k (n / 128)) (omega arith) many (omega arith) h)
         | inr le ↦ let small = few_bits bits n le lt in absurd (omega arith)
       ]
 ]
@@ -80,7 +80,7 @@ shortest_signed_number (suc k) bits n negative some few lt = elim (cases_lt n 64
             let q = ap (λ m. 2 ^ m) same in
             let rest : n / 128 < 2 ^ (bits - 7 - 1) = omega (arith, p, q) in
             let h = shortest_signed_number k (bits - 7) (n / 128) negative (omega arith) (omega arith) rest in
-            rw (le-ltb n 64 large) (goes_on true bits (group_of negative n + 128) (complement_of negative (bits - 7) (n / 128)) (complement_of negative bits n) (shortest_signed_in k negative (n / 128)) (omega arith) (omega arith) many (next_group negative bits n many lt) h)
+            rw (le-ltb n 64 large) (goes_on true bits (group_of negative n + 128) (complement_of negative (bits - 7) (n / 128)) (complement_of negative bits n) (shortest_signed_in k negative (n / 128)) (omega arith) many (next_group negative bits n many lt) h)
         | inr le ↦
             let less : bits - 1 ≤ 6 = omega arith in
             let p : 2 ^ (bits - 1) ≤ 2 ^ 6 = pow_mono {i = bits - 1} {j = 6} less in

@@ -3,3 +3,4 @@ pub mod Outs
 pub mod Laws
 mod Examples
 mod Tables
+pub mod WithinLaws

@@ -1,5 +1,5 @@
 -- The instruction of an opcode (Core 1.0, 5.4), for those that hold no others.
-use Rattle.std.specs.Prelude.{ℕ, Bool, false, ◌||◌, ◌&&◌, ◌==◌, nat_le, nat_lt, Option, Some, None, if◌then◌else◌}
+use Rattle.std.specs.Prelude.{ℕ, Bool, ◌||◌, ◌&&◌, ◌==◌, nat_le, nat_lt, Option, Some, None, if◌then◌else◌}
 use Rattle.wasm_form.specs.declared.instr.Instr.{Instr, roll-Instr}
 use Rattle.wasm_form.specs.declared.instr.Instr.TheOpen as F
 use Rattle.wasm_form.specs.declared.instr.MemArg.{MemArg}
