@@ -7,3 +7,5 @@ pub mod Customs
 pub mod Numbers
 pub mod Exact
 pub mod ExactTypes
+pub mod Parts
+pub mod ExactPlain
