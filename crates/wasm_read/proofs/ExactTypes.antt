@@ -71,7 +71,7 @@ no_way_out : {A : Type 0} (b : Bool) (d f : Fault) (x : A) → cond b (Err d) (E
 no_way_out true d f x e = cc
 no_way_out false d f x e = cc
 
-value_found : (b : ℕ) (rest : List ℕ) (x : ValueType × List ℕ) → value_type_by b rest ≡ Ok x → Takes (IsValueType x.0) (b ∷ rest) x.1
+pub value_found : (b : ℕ) (rest : List ℕ) (x : ValueType × List ℕ) → value_type_by b rest ≡ Ok x → Takes (IsValueType x.0) (b ∷ rest) x.1
 value_found b rest x e = elim (chosen (eqb b 0x7f) _ _ _ e) [
   | inl p ↦ subst (λ (y : ValueType × List ℕ). Takes (IsValueType y.0) (b ∷ rest) y.1) (ok_is (value_type.I32, rest) x p.1) (record { front = b ∷ []; parts = refl; is = (eqb-true b 0x7f p.0, refl) })
   | inr p ↦ elim (chosen (eqb b 0x7e) _ _ _ p.1) [

@@ -9,3 +9,4 @@ pub mod Exact
 pub mod ExactTypes
 pub mod Parts
 pub mod ExactPlain
+pub mod ExactCode
