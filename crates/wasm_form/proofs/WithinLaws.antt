@@ -103,7 +103,7 @@ all_items one P each (x ∷ xs) before bytes h (suc k) d lt =
     subst (λ n. P n (get_or xs k d)) e (all_items one P each xs (before ++ x ∷ []) h.back h.second k d (omega (arith, lt)))
 
 -- and of each element of a section
-all_in : {A : Type 0} (id : ℕ) (one : List A → A → List ℕ → Type 0) (P : ℕ → A → Type 0) → ((before : List A) (x : A) (bytes : List ℕ) → one before x bytes → P (length before) x)
+pub all_in : {A : Type 0} (id : ℕ) (one : List A → A → List ℕ → Type 0) (P : ℕ → A → Type 0) → ((before : List A) (x : A) (bytes : List ℕ) → one before x bytes → P (length before) x)
     → (xs : List A) (bytes : List ℕ) → IsSection id one xs bytes → (k : ℕ) (d : A) → k < length xs → P k (get_or xs k d)
 all_in id one P each xs bytes h = go h.section h.is
   where

@@ -19,17 +19,17 @@ use Rattle.wasm_read.proofs.Numbers.{chosen, bind_ok}
 use Rattle.wasm_read.proofs.Exact.{Takes, Exact, takes_then, exact_u32, items_found, items_only}
 
 -- a test that let a number pass
-guard_ok : {A : Type 0} (b : Bool) (d : Fault) (x y : A) → cond b (Err d) (Ok x) ≡ Ok y → (b ≡ false) × (x ≡ y)
+pub guard_ok : {A : Type 0} (b : Bool) (d : Fault) (x y : A) → cond b (Err d) (Ok x) ≡ Ok y → (b ≡ false) × (x ≡ y)
 guard_ok true d x y e = absurd cc
 guard_ok false d x y e = (refl, cc)
 
-count_found : (limit : ℕ) (fault : Fault) (bytes : List ℕ) (x : ℕ × List ℕ) → count_at limit fault bytes ≡ Ok x → (x.0 ≤ limit) × Takes (IsU32 x.0) bytes x.1
+pub count_found : (limit : ℕ) (fault : Fault) (bytes : List ℕ) (x : ℕ × List ℕ) → count_at limit fault bytes ≡ Ok x → (x.0 ≤ limit) × Takes (IsU32 x.0) bytes x.1
 count_found limit fault bytes x e =
     let k = bind_ok (u32_at bytes) (λ n. cond (nat_lt limit n.0) (Err fault) (Ok n)) x e in
     let g = guard_ok (nat_lt limit k.0.0) fault k.0 x k.2 in
     subst (λ (y : ℕ × List ℕ). (y.0 ≤ limit) × Takes (IsU32 y.0) bytes y.1) g.1 (ltb-false limit k.0.0 g.0, exact_u32.found bytes k.0 k.1)
 
-count_only : (limit n : ℕ) (fault : Fault) (front rest : List ℕ) → n ≤ limit → IsU32 n front → count_at limit fault (front ++ rest) ≡ Ok (n, rest)
+pub count_only : (limit n : ℕ) (fault : Fault) (front rest : List ℕ) → n ≤ limit → IsU32 n front → count_at limit fault (front ++ rest) ≡ Ok (n, rest)
 count_only limit n fault front rest le h = rw (exact_u32.only n front rest h, le-ltb limit n le) refl
 
 -- a list of at most so many elements
@@ -67,7 +67,7 @@ exact_index limit = record {
 
 -- ---- types of values
 
-no_way_out : {A : Type 0} (b : Bool) (d f : Fault) (x : A) → cond b (Err d) (Err f) ≡ Ok x → ⊥
+pub no_way_out : {A : Type 0} (b : Bool) (d f : Fault) (x : A) → cond b (Err d) (Err f) ≡ Ok x → ⊥
 no_way_out true d f x e = cc
 no_way_out false d f x e = cc
 

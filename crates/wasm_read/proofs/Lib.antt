@@ -10,3 +10,6 @@ pub mod ExactTypes
 pub mod Parts
 pub mod ExactPlain
 pub mod ExactCode
+pub mod ExactTables
+pub mod ExactImports
+pub mod ExactGlobals

@@ -94,7 +94,7 @@ pub record TakesByte (c : ℕ) (e : List ℕ → Result (List ℕ) Fault) : Type
   pub found : (bytes rest : List ℕ) → e bytes ≡ Ok rest → bytes ≡ c ∷ rest
   pub only : (rest : List ℕ) → e (c ∷ rest) ≡ Ok rest
 
-byte_found : (c b : ℕ) (rest left : List ℕ) (d : Fault) → cond (eqb b c) (Ok rest) (Err d) ≡ Ok left → b ∷ rest ≡ c ∷ left
+pub byte_found : (c b : ℕ) (rest left : List ℕ) (d : Fault) → cond (eqb b c) (Ok rest) (Err d) ≡ Ok left → b ∷ rest ≡ c ∷ left
 byte_found c b rest left d e = elim (chosen (eqb b c) _ _ _ e) [
   | inl p ↦ let same = eqb-true b c p.0 in let left_is = ok_is rest left p.1 in rw (same, left_is) refl
   | inr p ↦ absurd cc
