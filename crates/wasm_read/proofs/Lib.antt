@@ -13,3 +13,8 @@ pub mod ExactCode
 pub mod ExactTables
 pub mod ExactImports
 pub mod ExactGlobals
+pub mod ExactSegments
+pub mod ExactSections
+pub mod ExactMain
+pub mod ExactModule
+pub mod ModuleLaws
