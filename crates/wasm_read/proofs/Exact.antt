@@ -66,7 +66,7 @@ exact_list P one exact = record {
   found = λ bytes x e.
       let k = bind_ok (u32_at bytes) (λ n. list_at one [] n.0 n.1) x e in
       let first = exact_u32.found bytes k.0 k.1 in
-        let others = items_found P one exact k.0.0 [] k.0.1 x k.2 in
+      let others = items_found P one exact k.0.0 [] k.0.1 x k.2 in
       let whole = takes_then (IsU32 k.0.0) (AreItems P [] others.0) bytes k.0.1 x.1 first others.3 in
       subst (λ (xs : List _). Takes (IsList P xs) bytes x.1) (sym others.1) (subst (λ n. Takes (Then (IsU32 n) (AreItems P [] others.0)) bytes x.1) (sym others.2) whole);
   only = λ xs front rest h.

@@ -146,16 +146,16 @@ end_behind b t code rest = ap (λ (l : List ℕ). b ∷ t ∷ l) (sym (append_as
 sides_instr : (labels b : ℕ) (rest : List ℕ) (x : (Option ValueType × List Instr × List Instr) × List ℕ) → b ≡ 0x04 → AreSides labels rest x → Takes (IsInstr labels (If x.0.0 x.0.1 x.0.2)) (b ∷ rest) x.1
 sides_instr labels b rest x opcode s = elim s.second [
   | inl none ↦ record {
-      front = 0x04 ∷ block_type_byte x.0.0 ∷ (s.code ++ 0x0b ∷ []);
-      parts = rw opcode (ap (λ (l : List ℕ). 0x04 ∷ l) s.parts) ∙ ap (λ (l : List ℕ). 0x04 ∷ block_type_byte x.0.0 ∷ (s.code ++ l)) none.1 ∙ end_behind 0x04 (block_type_byte x.0.0) s.code x.1;
-      is = one_side labels (If x.0.0 x.0.1 x.0.2) _ x.0.0 x.0.1 s.code s.few (ap (λ (l : List Instr). If x.0.0 x.0.1 l) none.0) refl s.is;
-    }
+    front = 0x04 ∷ block_type_byte x.0.0 ∷ (s.code ++ 0x0b ∷ []);
+    parts = rw opcode (ap (λ (l : List ℕ). 0x04 ∷ l) s.parts) ∙ ap (λ (l : List ℕ). 0x04 ∷ block_type_byte x.0.0 ∷ (s.code ++ l)) none.1 ∙ end_behind 0x04 (block_type_byte x.0.0) s.code x.1;
+    is = one_side labels (If x.0.0 x.0.1 x.0.2) _ x.0.0 x.0.1 s.code s.few (ap (λ (l : List Instr). If x.0.0 x.0.1 l) none.0) refl s.is;
+  }
   | inr some ↦ record {
-      front = 0x04 ∷ block_type_byte x.0.0 ∷ (s.code ++ 0x05 ∷ (some.0 ++ 0x0b ∷ []));
-      parts = rw opcode (ap (λ (l : List ℕ). 0x04 ∷ l) s.parts) ∙ ap (λ (l : List ℕ). 0x04 ∷ block_type_byte x.0.0 ∷ (s.code ++ l)) (some.1 ∙ ap (λ (l : List ℕ). 0x05 ∷ l) (sym (append_assoc some.0 (0x0b ∷ []) x.1)))
-          ∙ ap (λ (l : List ℕ). 0x04 ∷ block_type_byte x.0.0 ∷ l) (sym (append_assoc s.code (0x05 ∷ (some.0 ++ 0x0b ∷ [])) x.1));
-      is = two_sides labels (If x.0.0 x.0.1 x.0.2) _ x.0.0 x.0.1 x.0.2 s.code some.0 s.few refl refl s.is some.2;
-    }
+    front = 0x04 ∷ block_type_byte x.0.0 ∷ (s.code ++ 0x05 ∷ (some.0 ++ 0x0b ∷ []));
+    parts = rw opcode (ap (λ (l : List ℕ). 0x04 ∷ l) s.parts) ∙ ap (λ (l : List ℕ). 0x04 ∷ block_type_byte x.0.0 ∷ (s.code ++ l)) (some.1 ∙ ap (λ (l : List ℕ). 0x05 ∷ l) (sym (append_assoc some.0 (0x0b ∷ []) x.1)))
+        ∙ ap (λ (l : List ℕ). 0x04 ∷ block_type_byte x.0.0 ∷ l) (sym (append_assoc s.code (0x05 ∷ (some.0 ++ 0x0b ∷ [])) x.1));
+    is = two_sides labels (If x.0.0 x.0.1 x.0.2) _ x.0.0 x.0.1 x.0.2 s.code some.0 s.few refl refl s.is some.2;
+  }
 ]
 
 instr_found : (k : Coded) → Finds k → (labels : ℕ) (bytes : List ℕ) (x : Instr × List ℕ) → labels ≤ 1024 → instr_with k labels bytes ≡ Ok x → Takes (IsInstr labels x.0) bytes x.1
@@ -263,6 +263,7 @@ by_reads labels i bytes rest b tail whole more read = record { goes_on = ap stop
 
 mutual
   unfolding instr_with
+
   instr_only : (labels : ℕ) (i : Instr) (bytes rest : List ℕ) → IsInstr labels i bytes → Reads labels i bytes rest
   instr_only labels i bytes rest (plain k j bs h) = plain_reads labels i bytes rest h
   instr_only labels i bytes rest (block k j bs t body code few is spelled inner) =

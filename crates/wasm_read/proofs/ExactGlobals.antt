@@ -166,18 +166,26 @@ global_to g bytes h =
     let u = m.1 in
     subst (λ (y : GlobalEntry). IsGlobal y bytes) u.second.1
     (byte_then (value_type_byte h.0) (Byte (mutable_byte m.0) (IsConstant u.second.0)) bytes (record {
-      front = t.front; back = t.back; parts = t.parts; first = t.first;
+      front = t.front;
+      back = t.back;
+      parts = t.parts;
+      first = t.first;
       second = byte_then (mutable_byte m.0) (IsConstant u.second.0) t.back (record { front = u.front; back = u.back; parts = u.parts; first = u.first; second = u.second.2 });
     }))
 
 global_from : (g : GlobalEntry) (bytes : List ℕ) → IsGlobal g bytes → (t : ValueType) × Then (IsValueType t) (IsMutableOf t g) bytes
 global_from g bytes h =
     let t = then_byte (value_type_byte g.value_type) (Byte (mutable_byte g.is_mutable) (IsConstant g.initial)) bytes h in
-    let u = then_byte (mutable_byte g.is_mutable) (IsConstant g.initial) t.back t.second in
-    (g.value_type, record {
-      front = t.front; back = t.back; parts = t.parts; first = t.first;
-      second = (g.is_mutable, record { front = u.front; back = u.back; parts = u.parts; first = u.first; second = (g.initial, refl, u.second) });
-    })
+    let u = then_byte (mutable_byte g.is_mutable) (IsConstant g.initial) t.back t.second in (
+      g.value_type,
+      record {
+        front = t.front;
+        back = t.back;
+        parts = t.parts;
+        first = t.first;
+        second = (g.is_mutable, record { front = u.front; back = u.back; parts = u.parts; first = u.first; second = (g.initial, refl, u.second) });
+      },
+    )
 
 pub exact_global : Exact IsGlobal global_at
 unfolding global_at
@@ -244,21 +252,31 @@ module _ (m : Module) (counts : Counts) (count : (k : ExportKind) → count_of c
       let i = u.second.0 in
       let others = none_pass (λ (b : Export). bytes_eq b.name h.0) (λ b. b.name ≢ h.0) before (differ h.0) t.second.0 in
       let index : IsIndex (kind_count m k) i u.back = subst (λ n. IsIndex n i u.back) (count k) u.second.2 in
-      subst (λ (y : Export). IsExport m before y bytes) u.second.1
-      (others, record {
-        front = t.front; back = t.back; parts = t.parts; first = t.first;
-        second = byte_then (kind_byte k) (IsIndex (kind_count m k) i) t.back (record { front = u.front; back = u.back; parts = u.parts; first = u.first; second = index });
-      })
+      subst (λ (y : Export). IsExport m before y bytes) u.second.1 (
+        others,
+        record {
+          front = t.front;
+          back = t.back;
+          parts = t.parts;
+          first = t.first;
+          second = byte_then (kind_byte k) (IsIndex (kind_count m k) i) t.back (record { front = u.front; back = u.back; parts = u.parts; first = u.first; second = index });
+        },
+      )
 
   export_from : (e : Export) (bytes : List ℕ) → IsExport m before e bytes → (name : List ℕ) × Then (IsName name) (IsNew name e) bytes
   export_from e bytes h =
       let t = h.1 in
       let u = then_byte (kind_byte e.kind) (IsIndex (kind_count m e.kind) e.index) t.back t.second in
-      let others = pass_none (λ (b : Export). bytes_eq b.name e.name) (λ b. b.name ≢ e.name) before (no_name e.name) h.0 in
-      (e.name, record {
-        front = t.front; back = t.back; parts = t.parts; first = t.first;
-        second = (others, (e.kind, record { front = u.front; back = u.back; parts = u.parts; first = u.first; second = (e.index, refl, subst (λ n. IsIndex n e.index u.back) (sym (count e.kind)) u.second) }));
-      })
+      let others = pass_none (λ (b : Export). bytes_eq b.name e.name) (λ b. b.name ≢ e.name) before (no_name e.name) h.0 in (
+        e.name,
+        record {
+          front = t.front;
+          back = t.back;
+          parts = t.parts;
+          first = t.first;
+          second = (others, (e.kind, record { front = u.front; back = u.back; parts = u.parts; first = u.first; second = (e.index, refl, subst (λ n. IsIndex n e.index u.back) (sym (count e.kind)) u.second) }));
+        },
+      )
 
   pub exact_export : Exact (IsExport m before) (export_at counts before)
   unfolding export_at

@@ -185,20 +185,31 @@ module _ (types : List FunctionType) (before : List Import) where
       let t = h.1 in
       let from = (bytes_eq-Decides h.0 swiftown).0 t.second.0 in
       let u = t.second.1.1 in
-      let r = u.second in
-      (r.2.0, r.1, record {
-        front = t.front; back = t.back; parts = t.parts; first = subst (λ (n : List ℕ). IsName n t.front) from t.first;
-        second = record { front = u.front; back = u.back; parts = u.parts; first = subst (λ (n : List ℕ). IsName n u.front) r.0 u.first; second = r.2.1 };
-      })
+      let r = u.second in (
+        r.2.0,
+        r.1,
+        record {
+          front = t.front;
+          back = t.back;
+          parts = t.parts;
+          first = subst (λ (n : List ℕ). IsName n t.front) from t.first;
+          second = record { front = u.front; back = u.back; parts = u.parts; first = subst (λ (n : List ℕ). IsName n u.front) r.0 u.first; second = r.2.1 };
+        },
+      )
 
   import_from : (i : Import) (bytes : List ℕ) → IsImport types before i bytes → (from : List ℕ) × Then (IsName from) (IsSecond from i) bytes
   import_from i bytes h =
       let t = h.2 in
-      let u = t.second in
-      (swiftown, record {
-        front = t.front; back = t.back; parts = t.parts; first = t.first;
-        second = (refl, (host_name i.call, record { front = u.front; back = u.back; parts = u.parts; first = u.first; second = (refl, h.1, (h.0, u.second)) }));
-      })
+      let u = t.second in (
+        swiftown,
+        record {
+          front = t.front;
+          back = t.back;
+          parts = t.parts;
+          first = t.first;
+          second = (refl, (host_name i.call, record { front = u.front; back = u.back; parts = u.parts; first = u.first; second = (refl, h.1, (h.0, u.second)) }));
+        },
+      )
 
   pub exact_import : Exact (IsImport types before) (import_at types before)
   unfolding import_at

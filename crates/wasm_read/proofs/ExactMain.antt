@@ -99,9 +99,9 @@ first_main m (x ∷ xs) before bytes h (suc k) e lt is main =
     let last : get_or (before ++ x ∷ []) (length before) x ≡ x = get_or-append_seam before x [] x in
     let differ = later m xs (before ++ x ∷ []) h.back h.second (length before) x (omega (arith, l)) k e (omega (arith, lt)) in
     let other : step.is_main x ≡ false = false_from_ne_true (step.is_main x) (λ yes.
-        let mine = (bytes_eq-Decides x.name main_name).0 (main_found x yes).0 in
-        let its = (bytes_eq-Decides e.name main_name).0 main.0 in
-        differ (ap (λ (y : Export). y.name) last ∙ mine ∙ sym its ∙ sym (ap (λ (y : Export). y.name) is))) in
+    let mine = (bytes_eq-Decides x.name main_name).0 (main_found x yes).0 in
+    let its = (bytes_eq-Decides e.name main_name).0 main.0 in
+    differ (ap (λ (y : Export). y.name) last ∙ mine ∙ sym its ∙ sym (ap (λ (y : Export). y.name) is))) in
     rw other (first_main m xs (before ++ x ∷ []) h.back h.second k e (omega (arith, lt)) is main)
 
 or_true : (b : Bool) → (b || true) ≡ true

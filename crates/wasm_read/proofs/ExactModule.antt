@@ -99,10 +99,10 @@ codes_exact m some =
     (exact_then IsU32 (Numbered m) u32_at (λ n bytes. cond (n == length m.functions) (list_at (code_entry_at m.types m.functions) [] n bytes) (Err NotModule)) exact_u32
     (λ n. exact_when (n == length m.functions) NotModule (Items m n) (list_at (code_entry_at m.types m.functions) [] n) (exact_items (Code m) (code_entry_at m.types m.functions) (exact_code m some) n)))
     (λ cs bytes h.
-        let t = h.1 in
-        let n = eqb-true h.0 (length m.functions) t.second.0 in
-        let many = t.second.1.0 in
-        (many ∙ n, record { front = t.front; back = t.back; parts = t.parts; first = subst (λ k. IsU32 k t.front) (sym many) t.first; second = t.second.1.1 }))
+    let t = h.1 in
+    let n = eqb-true h.0 (length m.functions) t.second.0 in
+    let many = t.second.1.0 in
+    (many ∙ n, record { front = t.front; back = t.back; parts = t.parts; first = subst (λ k. IsU32 k t.front) (sym many) t.first; second = t.second.1.1 }))
     (λ cs bytes h. let t = h.1 in (length cs, record { front = t.front; back = t.back; parts = t.parts; first = t.first; second = ((Decides-eqb (length cs) (length m.functions)).1 h.0, (refl, t.second)) }))
 
 -- each type has at most 64 parameters

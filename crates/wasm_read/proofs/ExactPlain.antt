@@ -443,4 +443,3 @@ exact_plain b = record { found = found; only = only }
     only : (i : Instr) (front rest : List ℕ) → (b ≡ layer_opcode (out-Instr i)) × AreImmediates (out-Instr i) front → plain_by b (front ++ rest) ≡ Ok (i, rest)
     only i front rest h =
         ap (λ c. plain_by c (front ++ rest)) h.0 ∙ plain_only (out-Instr i) front rest h.1 ∙ ap (λ (j : Instr). left_with j rest) (roll-out-Instr i)
-

@@ -28,12 +28,14 @@ custom_found bytes rest e =
           let name = exact_name.found (take k.0.0 k.0.1) c.0 c.1 in
           let all = take k.0.0 k.0.1 in
           let number : IsU32 (length all) first.front = subst (λ n. IsU32 n first.front) (sym (length-take-le k.0.0 k.0.1 (ltb-false (length k.0.1) k.0.0 p.0))) first.is in
-          let left = ok_is (drop k.0.0 k.0.1) rest p.1 in
-          (c.0.0, record {
-            front = first.front ++ all;
-            parts = first.parts ∙ ap (λ (l : List ℕ). first.front ++ l) (sym (take-append-drop k.0.0 k.0.1) ∙ ap (λ (l : List ℕ). all ++ l) left) ∙ sym (append_assoc first.front all rest);
-            is = record { front = first.front; back = all; parts = refl; size = number; is = record { front = name.front; back = c.0.1; parts = name.parts; first = name.is; second = tt } };
-          })
+          let left = ok_is (drop k.0.0 k.0.1) rest p.1 in (
+            c.0.0,
+            record {
+              front = first.front ++ all;
+              parts = first.parts ∙ ap (λ (l : List ℕ). first.front ++ l) (sym (take-append-drop k.0.0 k.0.1) ∙ ap (λ (l : List ℕ). all ++ l) left) ∙ sym (append_assoc first.front all rest);
+              is = record { front = first.front; back = all; parts = refl; size = number; is = record { front = name.front; back = c.0.1; parts = name.parts; first = name.is; second = tt } };
+            },
+          )
     ]
 
 custom_only : (name front rest : List ℕ) → Sized (Then (IsName name) (λ _. Unit {0})) front → custom_at (front ++ rest) ≡ Ok rest
@@ -77,7 +79,10 @@ customs_anyhow (n ∷ names) before other bytes h = record { front = h.front; ba
 customs_append : (names others before : List (List ℕ)) (a b : List ℕ) → Customs before names a → Customs [] others b → Customs before (names ++ others) (a ++ b)
 customs_append [] others before a b h g = subst (λ (l : List ℕ). Customs before others (l ++ b)) (sym h) (customs_anyhow others [] before b g)
 customs_append (n ∷ names) others before a b h g = record {
-  front = h.front; back = h.back ++ b; parts = two_parts a h.front h.back b h.parts; first = h.first;
+  front = h.front;
+  back = h.back ++ b;
+  parts = two_parts a h.front h.back b h.parts;
+  first = h.first;
   second = customs_append names others (before ++ n ∷ []) h.back b h.second g;
 }
 
@@ -146,7 +151,7 @@ finish_found bytes rest e =
   where
     nothing_left : (l : List ℕ) → end_by l ≡ Ok rest → l ≡ []
     nothing_left [] e = refl
-    nothing_left (b ∷ l) e = elim (chosen (b == 8) _ _ _ e) [ | inl p ↦ absurd cc | inr p ↦ absurd cc ]
+    nothing_left (b ∷ l) e = elim (chosen (b == 8) _ _ _ e) [ inl p ↦ absurd cc | inr p ↦ absurd cc ]
 
 -- no section stands behind these custom sections
 pub no_section : {A : Type 0} (id : ℕ) (one : List A → A → List ℕ → Type 0) (bytes rest : List ℕ) → Takes AreCustom bytes rest → Takes (IsSection id one []) bytes rest

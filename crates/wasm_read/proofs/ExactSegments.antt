@@ -104,24 +104,40 @@ module _ (m : Module) (few : length m.tables ≤ 1) where
       let table : IsIndex (length m.tables) 0 a.front = subst (λ t. IsIndex (length m.tables) t a.front) (only_zero h.0 (length m.tables) few a.first.0) a.first in
       let within : offset + length fs.0 ≤ least m.tables = let e = fs.2 in let le = c.first.0 in omega (arith, e, le) in
       let number : IsU32 (length fs.0) c.front = subst (λ k. IsU32 k c.front) (sym fs.2) c.first.1 in
-      subst (λ (y : ElementSegment). IsElement m y bytes) fs.1
-      (within, record {
-        front = a.front; back = a.back; parts = a.parts; first = table;
-        second = record { front = b.front; back = b.back; parts = b.parts; first = b.first; second = record { front = c.front; back = c.back; parts = c.parts; first = number; second = fs.3 } };
-      })
+      subst (λ (y : ElementSegment). IsElement m y bytes) fs.1 (
+        within,
+        record {
+          front = a.front;
+          back = a.back;
+          parts = a.parts;
+          first = table;
+          second = record { front = b.front; back = b.back; parts = b.parts; first = b.first; second = record { front = c.front; back = c.back; parts = c.parts; first = number; second = fs.3 } };
+        },
+      )
 
   element_from : (s : ElementSegment) (bytes : List ℕ) → IsElement m s bytes → (t : ℕ) × Then (IsIndex (length m.tables) t) (IsPlaced t s) bytes
   element_from s bytes h =
       let a = h.1 in
       let b = a.second in
-      let c = b.second in
-      (0, record {
-        front = a.front; back = a.back; parts = a.parts; first = a.first;
-        second = (s.offset, record {
-          front = b.front; back = b.back; parts = b.parts; first = b.first;
-          second = (length s.functions, record { front = c.front; back = c.back; parts = c.parts; first = (h.0, c.first); second = (s.functions, refl, refl, c.second) });
-        });
-      })
+      let c = b.second in (
+        0,
+        record {
+          front = a.front;
+          back = a.back;
+          parts = a.parts;
+          first = a.first;
+          second = (
+            s.offset,
+            record {
+              front = b.front;
+              back = b.back;
+              parts = b.parts;
+              first = b.first;
+              second = (length s.functions, record { front = c.front; back = c.back; parts = c.parts; first = (h.0, c.first); second = (s.functions, refl, refl, c.second) });
+            },
+          );
+        },
+      )
 
   pub exact_element : Exact (IsElement m) (element_at m.tables (function_count m))
   unfolding element_at
@@ -164,25 +180,41 @@ module _ (m : Module) (few : length m.memories ≤ 1) where
       let memory : IsIndex (length m.memories) 0 a.front = subst (λ t. IsIndex (length m.memories) t a.front) (only_zero h.0 (length m.memories) few a.first.0) a.first in
       let within : offset + length d.0 ≤ least m.memories * 65536 = let e = d.2.0 in let le = c.first.0 in omega (arith, e, le) in
       let number : IsU32 (length c.back) c.front = subst (λ k. IsU32 k c.front) (sym (ap length d.2.1 ∙ d.2.0)) c.first.1 in
-      subst (λ (y : DataSegment). IsSegment m y bytes) d.1
-      (within, record {
-        front = a.front; back = a.back; parts = a.parts; first = memory;
-        second = record { front = b.front; back = b.back; parts = b.parts; first = b.first; second = record { front = c.front; back = c.back; parts = c.parts; size = number; is = d.2.1 } };
-      })
+      subst (λ (y : DataSegment). IsSegment m y bytes) d.1 (
+        within,
+        record {
+          front = a.front;
+          back = a.back;
+          parts = a.parts;
+          first = memory;
+          second = record { front = b.front; back = b.back; parts = b.parts; first = b.first; second = record { front = c.front; back = c.back; parts = c.parts; size = number; is = d.2.1 } };
+        },
+      )
 
   segment_from : (s : DataSegment) (bytes : List ℕ) → IsSegment m s bytes → (t : ℕ) × Then (IsIndex (length m.memories) t) (IsLaid t s) bytes
   segment_from s bytes h =
       let a = h.1 in
       let b = a.second in
       let c = b.second in
-      let number : IsU32 (length s.bytes) c.front = subst (λ k. IsU32 k c.front) (ap length c.is) c.size in
-      (0, record {
-        front = a.front; back = a.back; parts = a.parts; first = a.first;
-        second = (s.offset, record {
-          front = b.front; back = b.back; parts = b.parts; first = b.first;
-          second = (length s.bytes, record { front = c.front; back = c.back; parts = c.parts; first = (h.0, number); second = (s.bytes, refl, (refl, c.is)) });
-        });
-      })
+      let number : IsU32 (length s.bytes) c.front = subst (λ k. IsU32 k c.front) (ap length c.is) c.size in (
+        0,
+        record {
+          front = a.front;
+          back = a.back;
+          parts = a.parts;
+          first = a.first;
+          second = (
+            s.offset,
+            record {
+              front = b.front;
+              back = b.back;
+              parts = b.parts;
+              first = b.first;
+              second = (length s.bytes, record { front = c.front; back = c.back; parts = c.parts; first = (h.0, number); second = (s.bytes, refl, (refl, c.is)) });
+            },
+          );
+        },
+      )
 
   pub exact_segment : Exact (IsSegment m) (segment_at m.memories)
   unfolding segment_at

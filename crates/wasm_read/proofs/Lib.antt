@@ -18,3 +18,4 @@ pub mod ExactSections
 pub mod ExactMain
 pub mod ExactModule
 pub mod ModuleLaws
+pub mod AnswerLaws

@@ -119,7 +119,7 @@ last_found first bytes m some few_tables few_memories h =
     let els = section_found 9 Any (λ _. IsElement whole) (elements_at first.tables n) (elements_exact whole few_tables) e.0.1 l.0 tt l.1 in
     let cs = codes_found whole some l.0.1 c.0 c.1 in
     let ss = section_found 11 Any (λ _. IsSegment whole) (segments_at first.memories) (segments_exact whole few_memories) c.0.1 s.0 tt s.1 in
-    let many : AsMany whole c.0.0 = elim cs.0 [ | inl a ↦ a | inr b ↦ absurd (not_started (segments_at first.memories) c.0.1 r.0 s.0 b s.1 r.1) ] in
+    let many : AsMany whole c.0.0 = elim cs.0 [ inl a ↦ a | inr b ↦ absurd (not_started (segments_at first.memories) c.0.1 r.0 s.0 b s.1 r.1) ] in
     subst (LastRead first bytes) (ok_is whole m r.2)
     (record { one = g.0.1; two = e.0.1; three = l.0.1; four = c.0.1; five = s.0.1; is = refl; globals = gs.1; exports = es.1; elements = els.1; codes = cs.1; segments = ss.1; end = finish_found s.0.1 r.0 r.1; few_globals = gs.0; few_exports = es.0; all_codes = many })
 

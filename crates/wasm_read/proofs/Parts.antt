@@ -68,8 +68,8 @@ exact_when true d P r exact = exact_as P _ r exact (λ a bytes h. (refl, h)) (λ
 
 -- one of two readers, by a test
 pub exact_either : {A : Type 0} (b : Bool) (P Q : A → List ℕ → Type 0) (r s : Reader A) → Exact P r → Exact Q s → Exact (λ a bytes. ((b ≡ true) × P a bytes) ⊎ ((b ≡ false) × Q a bytes)) (λ bytes. cond b (r bytes) (s bytes))
-exact_either true P Q r s first second = exact_as P _ r first (λ a bytes h. inl (refl, h)) (λ a bytes h. elim h [ | inl p ↦ p.1 | inr p ↦ absurd cc ])
-exact_either false P Q r s first second = exact_as Q _ s second (λ a bytes h. inr (refl, h)) (λ a bytes h. elim h [ | inl p ↦ absurd cc | inr p ↦ p.1 ])
+exact_either true P Q r s first second = exact_as P _ r first (λ a bytes h. inl (refl, h)) (λ a bytes h. elim h [ inl p ↦ p.1 | inr p ↦ absurd cc ])
+exact_either false P Q r s first second = exact_as Q _ s second (λ a bytes h. inr (refl, h)) (λ a bytes h. elim h [ inl p ↦ absurd cc | inr p ↦ p.1 ])
 
 -- ---- single bytes
 
