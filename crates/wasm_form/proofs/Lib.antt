@@ -4,3 +4,5 @@ pub mod Laws
 mod Examples
 mod Tables
 pub mod WithinLaws
+pub mod Codes
+pub mod ShortestLaws

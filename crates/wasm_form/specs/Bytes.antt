@@ -1,4 +1,5 @@
--- Which bytes spell which module (Core 1.0, 5), within the profile and the limits.
+-- Which bytes spell which module (Core 1.0, 5), within the profile and the limits. A list of numbers stands for bytes
+-- where each is below 256.
 use Rattle.std.specs.Prelude.{◌≡◌, ◌≢◌, ℕ, ◌+◌, ◌*◌, ◌<◌, ◌≤◌, ◌⊎◌, true, false, List, [], ◌∷◌, ◌++◌, length, All, Option, Some, None, slice_get}
 use Rattle.std.specs.Str.{IsUtf8}
 use Rattle.wasm_form.specs.declared.instr.Instr.{Instr, out-Instr}
@@ -272,3 +273,7 @@ pub record ModuleBytes (bytes : List ℕ) (m : Module) : Type 0 where
   pub sections : AreSections m rest
   pub counts : CountsAreWithin m
   pub main : HasMain m
+
+-- some bytes spell the module
+abbrev pub IsSpelled : Module → Type 0
+IsSpelled m = (bytes : List ℕ) × All (λ b. b < 256) bytes × ModuleBytes bytes m
