@@ -217,23 +217,27 @@ shortest_signed_least (suc k) bits j negative (c ∷ d ∷ bytes) some b lt h = 
 pub i32_least : (n : ℕ) (bytes : List ℕ) → AreBytes bytes → IsNumber true 32 bytes n → (n < 2 ^ 32) × (length (i32_shortest n) ≤ length bytes)
 unfolding i32_shortest signed_shortest
 i32_least n bytes b h =
-    let lt = signed_bound 32 n bytes b h in
-    (lt, elim (cases_lt n (2 ^ 31)) [
-      | inl small ↦ rw (lt-ltb n (2 ^ 31) small) (shortest_signed_least 10 32 n false bytes (omega arith) b small h)
-      | inr large ↦
-          let less : 2 ^ 32 - 1 - n < 2 ^ 31 = omega (arith, lt, large) in
-          let same : n ≡ 2 ^ 32 - 1 - (2 ^ 32 - 1 - n) = omega (arith, lt) in
-          rw (le-ltb n (2 ^ 31) large) (shortest_signed_least 10 32 (2 ^ 32 - 1 - n) true bytes (omega arith) b less (subst (λ m. IsNumber true 32 bytes m) same h))
-    ])
+    let lt = signed_bound 32 n bytes b h in (
+      lt,
+      elim (cases_lt n (2 ^ 31)) [
+        | inl small ↦ rw (lt-ltb n (2 ^ 31) small) (shortest_signed_least 10 32 n false bytes (omega arith) b small h)
+        | inr large ↦
+            let less : 2 ^ 32 - 1 - n < 2 ^ 31 = omega (arith, lt, large) in
+            let same : n ≡ 2 ^ 32 - 1 - (2 ^ 32 - 1 - n) = omega (arith, lt) in
+            rw (le-ltb n (2 ^ 31) large) (shortest_signed_least 10 32 (2 ^ 32 - 1 - n) true bytes (omega arith) b less (subst (λ m. IsNumber true 32 bytes m) same h))
+      ],
+    )
 
 pub i64_least : (n : ℕ) (bytes : List ℕ) → AreBytes bytes → IsNumber true 64 bytes n → (n < 2 ^ 64) × (length (i64_shortest n) ≤ length bytes)
 unfolding i64_shortest signed_shortest
 i64_least n bytes b h =
-    let lt = signed_bound 64 n bytes b h in
-    (lt, elim (cases_lt n (2 ^ 63)) [
-      | inl small ↦ rw (lt-ltb n (2 ^ 63) small) (shortest_signed_least 10 64 n false bytes (omega arith) b small h)
-      | inr large ↦
-          let less : 2 ^ 64 - 1 - n < 2 ^ 63 = omega (arith, lt, large) in
-          let same : n ≡ 2 ^ 64 - 1 - (2 ^ 64 - 1 - n) = omega (arith, lt) in
-          rw (le-ltb n (2 ^ 63) large) (shortest_signed_least 10 64 (2 ^ 64 - 1 - n) true bytes (omega arith) b less (subst (λ m. IsNumber true 64 bytes m) same h))
-    ])
+    let lt = signed_bound 64 n bytes b h in (
+      lt,
+      elim (cases_lt n (2 ^ 63)) [
+        | inl small ↦ rw (lt-ltb n (2 ^ 63) small) (shortest_signed_least 10 64 n false bytes (omega arith) b small h)
+        | inr large ↦
+            let less : 2 ^ 64 - 1 - n < 2 ^ 63 = omega (arith, lt, large) in
+            let same : n ≡ 2 ^ 64 - 1 - (2 ^ 64 - 1 - n) = omega (arith, lt) in
+            rw (le-ltb n (2 ^ 63) large) (shortest_signed_least 10 64 (2 ^ 64 - 1 - n) true bytes (omega arith) b less (subst (λ m. IsNumber true 64 bytes m) same h))
+      ],
+    )

@@ -89,9 +89,10 @@ sized_shorter P short bytes b f h =
     let le = inner.1 in
     let fewer = unsigned_monotone (length short) (length h.back) le in
     let whole = ap length h.parts ∙ length-append h.front h.back in
-    let pieces = length-append (unsigned_shortest (length short)) short in
-    (record { front = unsigned_shortest (length short); back = short; parts = refl; size = unsigned_number 32 (length short) (omega arith) (omega arith) (omega (arith, le, below)); is = inner.0 },
-    omega (arith, le, least, fewer, whole, pieces))
+    let pieces = length-append (unsigned_shortest (length short)) short in (
+      record { front = unsigned_shortest (length short); back = short; parts = refl; size = unsigned_number 32 (length short) (omega arith) (omega arith) (omega (arith, le, below)); is = inner.0 },
+      omega (arith, le, least, fewer, whole, pieces),
+    )
 
 same_shorter : (name bytes : List ℕ) → AreBytes bytes → bytes ≡ name → Shorter (λ b. b ≡ name) bytes name
 same_shorter name bytes b h = let e = ap length h in (refl, omega (arith, e))
@@ -119,7 +120,7 @@ type_shorter : (t : FunctionType) (bytes : List ℕ) → AreBytes bytes → IsTy
 unfolding type_shortest
 type_shorter t bytes b h =
     let k = byte_shorter 0x60 (Then (IsList (λ _. IsValueType) t.parameters) (IsList (λ _. IsValueType) (result_list t.result))) (list_shortest value_type_shortest t.parameters ++ list_shortest value_type_shortest (result_list t.result)) bytes b
-        (λ rest c. then_shorter (IsList (λ _. IsValueType) t.parameters) (IsList (λ _. IsValueType) (result_list t.result)) (list_shortest value_type_shortest t.parameters) (list_shortest value_type_shortest (result_list t.result)) rest c (value_types_shorter t.parameters) (value_types_shorter (result_list t.result))) h.1 in
+    (λ rest c. then_shorter (IsList (λ _. IsValueType) t.parameters) (IsList (λ _. IsValueType) (result_list t.result)) (list_shortest value_type_shortest t.parameters) (list_shortest value_type_shortest (result_list t.result)) rest c (value_types_shorter t.parameters) (value_types_shorter (result_list t.result))) h.1 in
     ((h.0, k.0), k.1)
 
 bounds_shorter : (min : ℕ) (max : Option ℕ) (bytes : List ℕ) → AreBytes bytes → AreBounds min max bytes → Shorter (AreBounds min max) bytes (limits_shortest (record { min = min; max = max }))
@@ -306,8 +307,8 @@ import_shorter : (types : List FunctionType) (before : List Import) (i : Import)
 unfolding import_shortest
 import_shorter types before i bytes b h =
     let k = then_shorter (IsName swiftown) (Then (IsName (host_name i.call)) (Byte 0x00 (IsU32 i.type_index))) (sized swiftown) (sized (host_name i.call) ++ (0 ∷ unsigned_shortest i.type_index)) bytes b (name_shorter swiftown)
-        (λ rest c. then_shorter (IsName (host_name i.call)) (Byte 0x00 (IsU32 i.type_index)) (sized (host_name i.call)) (0 ∷ unsigned_shortest i.type_index) rest c (name_shorter (host_name i.call))
-        (λ last d. byte_shorter 0x00 (IsU32 i.type_index) (unsigned_shortest i.type_index) last d (u32_shorter i.type_index))) h.2 in
+    (λ rest c. then_shorter (IsName (host_name i.call)) (Byte 0x00 (IsU32 i.type_index)) (sized (host_name i.call)) (0 ∷ unsigned_shortest i.type_index) rest c (name_shorter (host_name i.call))
+    (λ last d. byte_shorter 0x00 (IsU32 i.type_index) (unsigned_shortest i.type_index) last d (u32_shorter i.type_index))) h.2 in
     ((h.0, h.1, k.0), k.1)
 
 constant_shorter : (v : Value) (bytes : List ℕ) → AreBytes bytes → IsConstant v bytes → Shorter (IsConstant v) bytes (constant_shortest v)
@@ -325,7 +326,7 @@ export_shorter : (m : Module) (before : List Export) (e : Export) (bytes : List 
 unfolding export_shortest
 export_shorter m before e bytes b h =
     let k = then_shorter (IsName e.name) (Byte (kind_byte e.kind) (IsIndex (kind_count m e.kind) e.index)) (sized e.name) (kind_byte e.kind ∷ unsigned_shortest e.index) bytes b (name_shorter e.name)
-        (λ rest c. byte_shorter (kind_byte e.kind) (IsIndex (kind_count m e.kind) e.index) (unsigned_shortest e.index) rest c (index_shorter (kind_count m e.kind) e.index)) h.1 in
+    (λ rest c. byte_shorter (kind_byte e.kind) (IsIndex (kind_count m e.kind) e.index) (unsigned_shortest e.index) rest c (index_shorter (kind_count m e.kind) e.index)) h.1 in
     ((h.0, k.0), k.1)
 
 -- the first byte of a segment, which is a number 0
@@ -337,16 +338,16 @@ element_shorter : (m : Module) (s : ElementSegment) (bytes : List ℕ) → AreBy
 unfolding element_shortest
 element_shorter m s bytes b h =
     let k = then_shorter (IsIndex (length m.tables) 0) (Then (IsConstant (value.I32 s.offset)) (IsList (λ _. IsIndex (function_count m)) s.functions)) (unsigned_shortest 0) (constant_shortest (value.I32 s.offset) ++ list_shortest unsigned_shortest s.functions) bytes b (index_shorter (length m.tables) 0)
-        (λ rest c. then_shorter (IsConstant (value.I32 s.offset)) (IsList (λ _. IsIndex (function_count m)) s.functions) (constant_shortest (value.I32 s.offset)) (list_shortest unsigned_shortest s.functions) rest c (constant_shorter (value.I32 s.offset))
-        (list_shorter (λ _. IsIndex (function_count m)) unsigned_shortest (λ _. index_shorter (function_count m)) s.functions)) h.1 in
+    (λ rest c. then_shorter (IsConstant (value.I32 s.offset)) (IsList (λ _. IsIndex (function_count m)) s.functions) (constant_shortest (value.I32 s.offset)) (list_shortest unsigned_shortest s.functions) rest c (constant_shorter (value.I32 s.offset))
+    (list_shorter (λ _. IsIndex (function_count m)) unsigned_shortest (λ _. index_shorter (function_count m)) s.functions)) h.1 in
     subst (λ (z : List ℕ). Shorter (IsElement m s) bytes (z ++ (constant_shortest (value.I32 s.offset) ++ list_shortest unsigned_shortest s.functions))) first_zero ((h.0, k.0), k.1)
 
 segment_shorter : (m : Module) (s : DataSegment) (bytes : List ℕ) → AreBytes bytes → IsSegment m s bytes → Shorter (IsSegment m s) bytes (segment_shortest s)
 unfolding segment_shortest
 segment_shorter m s bytes b h =
     let k = then_shorter (IsIndex (length m.memories) 0) (Then (IsConstant (value.I32 s.offset)) (Sized (λ c. c ≡ s.bytes))) (unsigned_shortest 0) (constant_shortest (value.I32 s.offset) ++ sized s.bytes) bytes b (index_shorter (length m.memories) 0)
-        (λ rest c. then_shorter (IsConstant (value.I32 s.offset)) (Sized (λ c. c ≡ s.bytes)) (constant_shortest (value.I32 s.offset)) (sized s.bytes) rest c (constant_shorter (value.I32 s.offset))
-        (λ last d. sized_shorter (λ c. c ≡ s.bytes) s.bytes last d (same_shorter s.bytes))) h.1 in
+    (λ rest c. then_shorter (IsConstant (value.I32 s.offset)) (Sized (λ c. c ≡ s.bytes)) (constant_shortest (value.I32 s.offset)) (sized s.bytes) rest c (constant_shorter (value.I32 s.offset))
+    (λ last d. sized_shorter (λ c. c ≡ s.bytes) s.bytes last d (same_shorter s.bytes))) h.1 in
     subst (λ (z : List ℕ). Shorter (IsSegment m s) bytes (z ++ (constant_shortest (value.I32 s.offset) ++ sized s.bytes))) first_zero ((h.0, k.0), k.1)
 
 group_shorter : (g : LocalGroup) (bytes : List ℕ) → AreBytes bytes → IsGroup g bytes → Shorter (IsGroup g) bytes (group_shortest g)
@@ -357,8 +358,8 @@ code_entry_shorter : (m : Module) (k : ℕ) (c : CodeEntry) (bytes : List ℕ) �
 unfolding code_shortest body_shortest
 code_entry_shorter m k c bytes b h =
     let s = sized_shorter (Then (IsList (λ _. IsGroup) c.locals) (Then (IsCode 0 c.body) IsEnd)) (list_shortest group_shortest c.locals ++ (code_shortest_of c.body ++ 0x0b ∷ [])) bytes b
-        (λ back d. then_shorter (IsList (λ _. IsGroup) c.locals) (Then (IsCode 0 c.body) IsEnd) (list_shortest group_shortest c.locals) (code_shortest_of c.body ++ 0x0b ∷ []) back d (list_shorter (λ _. IsGroup) group_shortest (λ _. group_shorter) c.locals)
-        (λ rest e. then_shorter (IsCode 0 c.body) IsEnd (code_shortest_of c.body) (0x0b ∷ []) rest e (code_shorter 0 c.body) end_shorter)) h.1 in
+    (λ back d. then_shorter (IsList (λ _. IsGroup) c.locals) (Then (IsCode 0 c.body) IsEnd) (list_shortest group_shortest c.locals) (code_shortest_of c.body ++ 0x0b ∷ []) back d (list_shorter (λ _. IsGroup) group_shortest (λ _. group_shorter) c.locals)
+    (λ rest e. then_shorter (IsCode 0 c.body) IsEnd (code_shortest_of c.body) (0x0b ∷ []) rest e (code_shorter 0 c.body) end_shorter)) h.1 in
     ((h.0, s.0), s.1)
 
 -- ---- sections
@@ -391,7 +392,7 @@ then_is P Q p q bytes b f g h =
 regroup : (a b c d e f g h i j : List ℕ) → (a ++ (b ++ (c ++ (d ++ e)))) ++ (f ++ (g ++ (h ++ (i ++ j)))) ≡ a ++ (b ++ (c ++ (d ++ (e ++ (f ++ (g ++ (h ++ (i ++ (j ++ [])))))))))
 regroup a b c d e f g h i j =
     let inner : (b ++ (c ++ (d ++ e))) ++ (f ++ (g ++ (h ++ (i ++ j)))) ≡ b ++ (c ++ (d ++ (e ++ (f ++ (g ++ (h ++ (i ++ j))))))) =
-        append_assoc b (c ++ (d ++ e)) _ ∙ ap (λ (l : List ℕ). b ++ l) (append_assoc c (d ++ e) _ ∙ ap (λ (l : List ℕ). c ++ l) (append_assoc d e _)) in
+    append_assoc b (c ++ (d ++ e)) _ ∙ ap (λ (l : List ℕ). b ++ l) (append_assoc c (d ++ e) _ ∙ ap (λ (l : List ℕ). c ++ l) (append_assoc d e _)) in
     append_assoc a (b ++ (c ++ (d ++ e))) _ ∙ ap (λ (l : List ℕ). a ++ l) (inner ∙ ap (λ (l : List ℕ). b ++ (c ++ (d ++ (e ++ (f ++ (g ++ (h ++ (i ++ l)))))))) (sym (append-nil j)))
 
 module _ (m : Module) where

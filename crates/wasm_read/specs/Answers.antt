@@ -2,7 +2,6 @@
 use Rattle.std.specs.Prelude.{◌≡◌, ℕ, ◌≤◌, List, length, Result, Ok, Err}
 use Rattle.wasm_form.specs.declared.module.Module.{Module}
 use Rattle.wasm_form.specs.Bytes.{ModuleBytes}
-use Rattle.wasm_form.specs.Shortest.{Shortest}
 use Rattle.wasm_read.specs.declared.fault.Fault.{Fault}
 use Rattle.wasm_read.specs.declared.fault.Fault.TheVariants as fault
 use Rattle.wasm_read.specs.declared.fault.ReadError.{ReadError}
@@ -37,7 +36,3 @@ IsRead m (Err error.NoMain) = ⊥
 -- Each module that the bytes spell is the one that was read. So there is at most one.
 abbrev pub ReadsEach : List ℕ → Result Module ReadError → Type 0
 ReadsEach bytes answer = (m : Module) → ModuleBytes bytes m → IsRead m answer
-
--- The shortest spelling of a module that some bytes spell is a spelling of it, and of no other.
-abbrev pub ShortestSpells : Type 0
-ShortestSpells = (m : Module) (bytes : List ℕ) → ModuleBytes bytes m → ModuleBytes (Shortest m) m × ((n : Module) → ModuleBytes (Shortest m) n → n ≡ m)
