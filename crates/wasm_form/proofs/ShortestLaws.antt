@@ -369,23 +369,21 @@ no_custom = ([], refl)
 
 module _ {A : Type 0} (id : ℕ) (one : List A → A → List ℕ → Type 0) (short : A → List ℕ) (each : (before : List A) (x : A) (bytes : List ℕ) → AreBytes bytes → one before x bytes → Shorter (one before x) bytes (short x)) where
   -- a list that is not empty has a section
-  section_by : (xs : List A) (section : List ℕ) → AreBytes section → ((section ≡ []) × (xs ≡ [])) ⊎ Byte id (Sized (IsList one xs)) section → IsSection id one xs (section_shortest id short xs)
+  section_by : (xs : List A) (section : List ℕ) → AreBytes section → ((section ≡ []) × (xs ≡ [])) ⊎ Byte id (Sized (IsList one xs)) section → Shorter (IsSection id one xs) section (section_shortest id short xs)
   unfolding section_shortest
-  section_by [] section b h = record { customs = []; section = []; parts = refl; skipped = no_custom; is = inl (refl, refl) }
+  section_by [] section b h = (record { customs = []; section = []; parts = refl; skipped = no_custom; is = inl (refl, refl) }, omega arith)
   section_by (x ∷ xs) section b (inl none) = let e = ap length none.1 in absurd (omega (arith, e))
   section_by (x ∷ xs) section b (inr some) =
       let s = byte_shorter id (Sized (IsList one (x ∷ xs))) (sized (list_shortest short (x ∷ xs))) section b (λ rest c. sized_shorter (IsList one (x ∷ xs)) (list_shortest short (x ∷ xs)) rest c (list_shorter one short each (x ∷ xs))) some in
       let some_is = ne_eqb (length (x ∷ xs)) 0 (λ e. omega (arith, e)) in
-      record { customs = []; section = id ∷ sized (list_shortest short (x ∷ xs)); parts = rw some_is refl; skipped = no_custom; is = inr s.0 }
+      (record { customs = []; section = id ∷ sized (list_shortest short (x ∷ xs)); parts = rw some_is refl; skipped = no_custom; is = inr s.0 }, rw some_is s.1)
 
-  section_is : (xs : List A) (bytes : List ℕ) → AreBytes bytes → IsSection id one xs bytes → IsSection id one xs (section_shortest id short xs)
-  section_is xs bytes b h = section_by xs h.section (bytes_back h.customs h.section (subst AreBytes h.parts b)) h.is
-
--- a section and what follows it
-then_is : (P Q : List ℕ → Type 0) (p q bytes : List ℕ) → AreBytes bytes → ((front : List ℕ) → AreBytes front → P front → P p) → ((back : List ℕ) → AreBytes back → Q back → Q q) → Then P Q bytes → Then P Q (p ++ q)
-then_is P Q p q bytes b f g h =
-    let all = subst AreBytes h.parts b in
-    record { front = p; back = q; parts = refl; first = f h.front (bytes_front h.front h.back all) h.first; second = g h.back (bytes_back h.front h.back all) h.second }
+  section_shorter : (xs : List A) (bytes : List ℕ) → AreBytes bytes → IsSection id one xs bytes → Shorter (IsSection id one xs) bytes (section_shortest id short xs)
+  section_shorter xs bytes b h =
+      let k = section_by xs h.section (bytes_back h.customs h.section (subst AreBytes h.parts b)) h.is in
+      let le = k.1 in
+      let whole = ap length h.parts ∙ length-append h.customs h.section in
+      (k.0, omega (arith, le, whole))
 
 -- ---- the module
 
@@ -408,19 +406,19 @@ module _ (m : Module) where
   abbrev middle_bytes : List ℕ
   middle_bytes = section_shortest 6 global_shortest m.globals ++ (section_shortest 7 export_shortest m.exports ++ (section_shortest 9 element_shortest m.elements ++ last_bytes))
 
-  last_is : (bytes : List ℕ) → AreBytes bytes → Last bytes → Last last_bytes
-  last_is bytes b h =
-      then_is (IsSection 10 (λ before. IsCodeEntry m (length before)) m.codes) (Then (IsSection 11 (λ _. IsSegment m) m.segments) AreCustom) (section_shortest 10 code_shortest m.codes) (section_shortest 11 segment_shortest m.segments ++ []) bytes b
-      (section_is 10 (λ before. IsCodeEntry m (length before)) code_shortest (λ before. code_entry_shorter m (length before)) m.codes)
-      (λ rest c. then_is (IsSection 11 (λ _. IsSegment m) m.segments) AreCustom (section_shortest 11 segment_shortest m.segments) [] rest c (section_is 11 (λ _. IsSegment m) segment_shortest (λ _. segment_shorter m) m.segments) (λ _ _ _. no_custom)) h
+  last_shorter : (bytes : List ℕ) → AreBytes bytes → Last bytes → Shorter Last bytes last_bytes
+  last_shorter bytes b h =
+      then_shorter (IsSection 10 (λ before. IsCodeEntry m (length before)) m.codes) (Then (IsSection 11 (λ _. IsSegment m) m.segments) AreCustom) (section_shortest 10 code_shortest m.codes) (section_shortest 11 segment_shortest m.segments ++ []) bytes b
+      (section_shorter 10 (λ before. IsCodeEntry m (length before)) code_shortest (λ before. code_entry_shorter m (length before)) m.codes)
+      (λ rest c. then_shorter (IsSection 11 (λ _. IsSegment m) m.segments) AreCustom (section_shortest 11 segment_shortest m.segments) [] rest c (section_shorter 11 (λ _. IsSegment m) segment_shortest (λ _. segment_shorter m) m.segments) (λ last d e. (no_custom, omega arith))) h
 
-  middle_is : (bytes : List ℕ) → AreBytes bytes → Middle bytes → Middle middle_bytes
-  middle_is bytes b h =
-      then_is (IsSection 6 (λ _. IsGlobal) m.globals) (Then (IsSection 7 (IsExport m) m.exports) (Then (IsSection 9 (λ _. IsElement m) m.elements) Last)) (section_shortest 6 global_shortest m.globals) (section_shortest 7 export_shortest m.exports ++ (section_shortest 9 element_shortest m.elements ++ last_bytes)) bytes b
-      (section_is 6 (λ _. IsGlobal) global_shortest (λ _. global_shorter) m.globals)
-      (λ rest c. then_is (IsSection 7 (IsExport m) m.exports) (Then (IsSection 9 (λ _. IsElement m) m.elements) Last) (section_shortest 7 export_shortest m.exports) (section_shortest 9 element_shortest m.elements ++ last_bytes) rest c
-      (section_is 7 (IsExport m) export_shortest (export_shorter m) m.exports)
-      (λ left d. then_is (IsSection 9 (λ _. IsElement m) m.elements) Last (section_shortest 9 element_shortest m.elements) last_bytes left d (section_is 9 (λ _. IsElement m) element_shortest (λ _. element_shorter m) m.elements) last_is)) h
+  middle_shorter : (bytes : List ℕ) → AreBytes bytes → Middle bytes → Shorter Middle bytes middle_bytes
+  middle_shorter bytes b h =
+      then_shorter (IsSection 6 (λ _. IsGlobal) m.globals) (Then (IsSection 7 (IsExport m) m.exports) (Then (IsSection 9 (λ _. IsElement m) m.elements) Last)) (section_shortest 6 global_shortest m.globals) (section_shortest 7 export_shortest m.exports ++ (section_shortest 9 element_shortest m.elements ++ last_bytes)) bytes b
+      (section_shorter 6 (λ _. IsGlobal) global_shortest (λ _. global_shorter) m.globals)
+      (λ rest c. then_shorter (IsSection 7 (IsExport m) m.exports) (Then (IsSection 9 (λ _. IsElement m) m.elements) Last) (section_shortest 7 export_shortest m.exports) (section_shortest 9 element_shortest m.elements ++ last_bytes) rest c
+      (section_shorter 7 (IsExport m) export_shortest (export_shorter m) m.exports)
+      (λ left d. then_shorter (IsSection 9 (λ _. IsElement m) m.elements) Last (section_shortest 9 element_shortest m.elements) last_bytes left d (section_shorter 9 (λ _. IsElement m) element_shortest (λ _. element_shorter m) m.elements) last_shorter)) h
 
   abbrev memory_bytes : List ℕ
   memory_bytes = section_shortest 5 limits_shortest m.memories ++ middle_bytes
@@ -446,25 +444,27 @@ module _ (m : Module) where
   abbrev FromImports : List ℕ → Type 0
   FromImports = Then (IsSection 2 (IsImport m.types) m.imports) FromFunctions
 
-  sections_are : (bytes : List ℕ) → AreBytes bytes → AreSections m bytes → AreSections m (section_shortest 1 type_shortest m.types ++ import_bytes)
-  sections_are bytes b h =
-      then_is (IsSection 1 (λ _. IsType) m.types) FromImports (section_shortest 1 type_shortest m.types) import_bytes bytes b (section_is 1 (λ _. IsType) type_shortest (λ _. type_shorter) m.types)
-      (λ rest c. then_is (IsSection 2 (IsImport m.types) m.imports) FromFunctions (section_shortest 2 import_shortest m.imports) function_bytes rest c (section_is 2 (IsImport m.types) import_shortest (import_shorter m.types) m.imports)
-      (λ rest c. then_is (IsSection 3 (λ _. IsIndex (length m.types)) m.functions) FromTables (section_shortest 3 unsigned_shortest m.functions) table_bytes rest c (section_is 3 (λ _. IsIndex (length m.types)) unsigned_shortest (λ _. index_shorter (length m.types)) m.functions)
-      (λ rest c. then_is (IsSection 4 (λ _. IsTable) m.tables) FromMemories (section_shortest 4 table_shortest m.tables) memory_bytes rest c (section_is 4 (λ _. IsTable) table_shortest (λ _. table_shorter) m.tables)
-      (λ rest c. then_is (IsSection 5 (λ _. IsMemory) m.memories) Middle (section_shortest 5 limits_shortest m.memories) middle_bytes rest c (section_is 5 (λ _. IsMemory) limits_shortest (λ _. memory_shorter) m.memories) middle_is)))) h
+  sections_shorter : (bytes : List ℕ) → AreBytes bytes → AreSections m bytes → Shorter (AreSections m) bytes (section_shortest 1 type_shortest m.types ++ import_bytes)
+  sections_shorter bytes b h =
+      then_shorter (IsSection 1 (λ _. IsType) m.types) FromImports (section_shortest 1 type_shortest m.types) import_bytes bytes b (section_shorter 1 (λ _. IsType) type_shortest (λ _. type_shorter) m.types)
+      (λ rest c. then_shorter (IsSection 2 (IsImport m.types) m.imports) FromFunctions (section_shortest 2 import_shortest m.imports) function_bytes rest c (section_shorter 2 (IsImport m.types) import_shortest (import_shorter m.types) m.imports)
+      (λ rest c. then_shorter (IsSection 3 (λ _. IsIndex (length m.types)) m.functions) FromTables (section_shortest 3 unsigned_shortest m.functions) table_bytes rest c (section_shorter 3 (λ _. IsIndex (length m.types)) unsigned_shortest (λ _. index_shorter (length m.types)) m.functions)
+      (λ rest c. then_shorter (IsSection 4 (λ _. IsTable) m.tables) FromMemories (section_shortest 4 table_shortest m.tables) memory_bytes rest c (section_shorter 4 (λ _. IsTable) table_shortest (λ _. table_shorter) m.tables)
+      (λ rest c. then_shorter (IsSection 5 (λ _. IsMemory) m.memories) Middle (section_shortest 5 limits_shortest m.memories) middle_bytes rest c (section_shorter 5 (λ _. IsMemory) limits_shortest (λ _. memory_shorter) m.memories) middle_shorter)))) h
 
-  pub shortest_spells : (bytes : List ℕ) → All (λ b. b < 256) bytes → ModuleBytes bytes m → ModuleBytes (Shortest m) m
+  -- the shortest spelling spells the module, and is no longer than the bytes
+  pub shortest_spells : (bytes : List ℕ) → All (λ b. b < 256) bytes → ModuleBytes bytes m → ModuleBytes (Shortest m) m × (length (Shortest m) ≤ length bytes)
   unfolding Shortest first_sections last_sections
   shortest_spells bytes b h =
       let all = subst AreBytes h.parts (recursion_from_All (λ n. n < 256) bytes b) in
-      let sections = sections_are h.rest (bytes_back header h.rest all) h.sections in
-      record {
-        rest = first_sections m ++ last_sections m;
-        parts = refl;
-        sections = subst (AreSections m) (sym (regroup
-            (section_shortest 1 type_shortest m.types) (section_shortest 2 import_shortest m.imports) (section_shortest 3 unsigned_shortest m.functions) (section_shortest 4 table_shortest m.tables) (section_shortest 5 limits_shortest m.memories)
-            (section_shortest 6 global_shortest m.globals) (section_shortest 7 export_shortest m.exports) (section_shortest 9 element_shortest m.elements) (section_shortest 10 code_shortest m.codes) (section_shortest 11 segment_shortest m.segments))) sections;
-        counts = h.counts;
-        main = h.main;
-      }
+      let sections = sections_shorter h.rest (bytes_back header h.rest all) h.sections in
+      let same = regroup
+      (section_shortest 1 type_shortest m.types) (section_shortest 2 import_shortest m.imports) (section_shortest 3 unsigned_shortest m.functions) (section_shortest 4 table_shortest m.tables) (section_shortest 5 limits_shortest m.memories)
+      (section_shortest 6 global_shortest m.globals) (section_shortest 7 export_shortest m.exports) (section_shortest 9 element_shortest m.elements) (section_shortest 10 code_shortest m.codes) (section_shortest 11 segment_shortest m.segments) in
+      let le = sections.1 in
+      let long = ap length h.parts ∙ length-append header h.rest in
+      let short = length-append header (first_sections m ++ last_sections m) in
+      let pieces = ap length same in (
+        record { rest = first_sections m ++ last_sections m; parts = refl; sections = subst (AreSections m) (sym same) sections.0; counts = h.counts; main = h.main },
+        omega (arith, le, long, short, pieces),
+      )

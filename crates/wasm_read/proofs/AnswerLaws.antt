@@ -7,7 +7,7 @@ use Rattle.wasm_form.specs.Shortest.{Shortest}
 use Rattle.wasm_form.specs.Within.{IsWithin}
 use Rattle.wasm_form.proofs.ShortestLaws.{shortest_spells}
 use Rattle.wasm_form.proofs.WithinLaws.{module_within}
-use Rattle.wasm_read.specs.Laws.{SpellOne, ShortestSpells, SpelledIsWithin}
+use Rattle.wasm_read.specs.Laws.{SpellOne, ShortestIsLeast, ShortestSpells, SpelledIsWithin}
 use Rattle.wasm_read.specs.declared.fault.ReadError.{ReadError}
 use Rattle.wasm_read.specs.declared.fault.ReadError.TheVariants as error
 use Rattle.wasm_read.specs.Answers.{Answers, ReadsEach}
@@ -34,7 +34,7 @@ module _ (bytes : List ℕ) where
 
 pub shortest_law : ShortestSpells
 shortest_law m h =
-    let short = shortest_spells m h.0 h.1 h.2 in
+    let short = (shortest_spells m h.0 h.1 h.2).0 in
     (short, λ n other. ok_is n m (sym (module_only (Shortest m) n other) ∙ module_only (Shortest m) m short))
 
 pub within_law : SpelledIsWithin
@@ -42,3 +42,6 @@ within_law m h = module_within h.0 m h.2
 
 pub one_law : SpellOne
 one_law bytes m n h k = ok_is m n (sym (module_only bytes m h) ∙ module_only bytes n k)
+
+pub least_law : ShortestIsLeast
+least_law m bytes b h = (shortest_spells m bytes b h).1

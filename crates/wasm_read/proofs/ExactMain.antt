@@ -1,6 +1,6 @@
 -- A module has a main exactly where the test for it says so.
-use Rattle.std.proofs.Common.{◌≡◌, ℕ, zero, suc, ◌-◌, ◌<◌, Bool, true, false, cond, eqb, List, [], ◌∷◌, ◌++◌, length, get_or, Option, Some, None, refl, sym, ap, ◌∙◌, arith}
-use Rattle.std.specs.Prelude.{◌≢◌, ◌||◌, slice_get, is_none}
+use Rattle.std.proofs.Common.{leb, ◌≡◌, ℕ, zero, suc, ◌-◌, ◌<◌, Bool, true, false, cond, eqb, List, [], ◌∷◌, ◌++◌, length, get_or, Option, Some, None, refl, sym, ap, ◌∙◌, arith}
+use Rattle.std.specs.Prelude.{◌&&◌, ◌≢◌, ◌||◌, slice_get, is_none}
 use Rattle.std.specs.List.{list_any}
 use Rattle.std.specs.Str.{bytes_eq}
 use Rattle.std.proofs.lemmas.Bool.{eqb-true, leb-true, le-leb, and_parts, and_from, false_from_ne_true}
@@ -129,10 +129,10 @@ main_is_found m bytes items codes h =
     let any = Any-from_list_any (is_main m) m.exports h in
     let k = any.0 in
     let e = any.1 in
-    let parts = and_parts _ _ any.4 in
-    let rest = and_parts _ _ parts.1 in
-    let start = and_parts _ _ rest.1 in
     let number = e.index - length m.imports in
+    let parts = and_parts (bytes_eq e.name main_name) (is_function e.kind && is_start m e.index) any.4 in
+    let rest = and_parts (is_function e.kind) (is_start m e.index) parts.1 in
+    let start = and_parts (leb (length m.imports) e.index) (is_nothing (type_named m.types (slice_get m.functions number))) rest.1 in
     let nothing = nothing_found (defined_type m number) (ap is_nothing (sym (named_is m number)) ∙ start.1) in
     let below : number < length m.codes = let lt = defined_below m number nothing.type nothing.is in omega (arith, lt, codes) in
     let code = slice_get-get_or m.codes number no_code below in

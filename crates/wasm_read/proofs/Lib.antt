@@ -19,3 +19,4 @@ pub mod ExactMain
 pub mod ExactModule
 pub mod ModuleLaws
 pub mod AnswerLaws
+mod Examples

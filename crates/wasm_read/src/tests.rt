@@ -198,7 +198,25 @@ fn section(
 
 #[test]
 fn limits(rt: HostRuntime) -> Result<(), Fail> {
-    let rows: [(u8, &[u8], &[u8], u32, &[u8], ReadError); 13] = [
+    let rows: [(u8, &[u8], &[u8], u32, &[u8], ReadError); 15] = [
+        // The largest count that is taken, and then no entry.
+        (
+            3,
+            &[0x90, 0x4e],
+            &[],
+            0,
+            &[],
+            ReadError::NotModule { at: 16 },
+        ),
+        (
+            7,
+            &[0x90, 0x4e],
+            &[],
+            0,
+            &[],
+            ReadError::NotModule { at: 16 },
+        ),
+        // Each limit at its number, and one past it.
         (
             1,
             &[0x90, 0x4e],
