@@ -4,3 +4,6 @@ pub mod Laws
 mod Examples
 mod Tables
 pub mod Nests
+pub mod WithinLaws
+pub mod Codes
+pub mod ShortestLaws

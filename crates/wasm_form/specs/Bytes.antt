@@ -1,6 +1,6 @@
--- Which bytes spell which module (Core 1.0, 5), within the profile and the limits.
-use Rattle.std.specs.Prelude.{◌≡◌, ◌≢◌, ℕ, ◌+◌, ◌*◌, ◌<◌, ◌≤◌, ◌⊎◌, true, false, List, [], ◌∷◌, ◌++◌, length, All, Contains, Option, Some, None, slice_get}
-use Rattle.std.specs.List.{sum_by}
+-- Which bytes spell which module (Core 1.0, 5), within the profile and the limits. A list of numbers stands for bytes
+-- where each is below 256.
+use Rattle.std.specs.Prelude.{◌≡◌, ◌≢◌, ℕ, ◌+◌, ◌*◌, ◌<◌, ◌≤◌, ◌⊎◌, true, false, List, [], ◌∷◌, ◌++◌, length, All, Option, Some, None, slice_get}
 use Rattle.std.specs.Str.{IsUtf8}
 use Rattle.wasm_form.specs.declared.instr.Instr.{Instr, out-Instr}
 use Rattle.wasm_form.specs.declared.instr.Instr.TheOpen.{Instr-F}
@@ -26,6 +26,8 @@ use Rattle.wasm_form.specs.declared.module.CodeEntry.{CodeEntry}
 use Rattle.wasm_form.specs.declared.module.DataSegment.{DataSegment}
 use Rattle.wasm_form.specs.declared.module.Module.{Module}
 use Rattle.wasm_form.specs.Leb.{IsNumber}
+use Rattle.wasm_form.specs.Steps.{defined_type, least}
+use Rattle.wasm_form.specs.Within.{HasMain, count_locals}
 use Rattle.wasm_form.specs.Opcode.{layer_opcode}
 use Rattle.wasm_form.specs.Shortest.{value_type_byte, block_type_byte, result_list, mutable_byte, kind_byte, swiftown, host_name, header}
 
@@ -207,13 +209,8 @@ kind_count m kind.Global = length m.globals
 abbrev pub IsExport : Module → List Export → Export → List ℕ → Type 0
 IsExport m before e bytes = All (λ b. b.name ≢ e.name) before × Then (IsName e.name) (Byte (kind_byte e.kind) (IsIndex (kind_count m e.kind) e.index)) bytes
 
--- the least size of the table or the memory, if there is one
-abbrev pub least_size : List Limits → ℕ
-least_size [] = 0
-least_size (l ∷ ls) = l.min
-
 abbrev pub IsElement : Module → ElementSegment → List ℕ → Type 0
-IsElement m s bytes = (s.offset + length s.functions ≤ least_size m.tables)
+IsElement m s bytes = (s.offset + length s.functions ≤ least m.tables)
     × Then (IsIndex (length m.tables) 0) (Then (IsConstant (value.I32 s.offset)) (IsList (λ _. IsIndex (function_count m)) s.functions)) bytes
 
 abbrev pub IsGroup : LocalGroup → List ℕ → Type 0
@@ -223,21 +220,13 @@ abbrev pub parameters_in : Option FunctionType → ℕ
 parameters_in None = 0
 parameters_in (Some t) = length t.parameters
 
-abbrev pub type_of_index : Module → Option ℕ → Option FunctionType
-type_of_index m None = None
-type_of_index m (Some i) = slice_get m.types i
-
--- the type of the defined function of this number
-abbrev pub function_type : Module → ℕ → Option FunctionType
-function_type m k = type_of_index m (slice_get m.functions k)
-
 -- the code of the function of this number
 abbrev pub IsCodeEntry : Module → ℕ → CodeEntry → List ℕ → Type 0
-IsCodeEntry m k c bytes = (parameters_in (function_type m k) + sum_by (λ g. g.count) c.locals ≤ 4400)
+IsCodeEntry m k c bytes = (parameters_in (defined_type m k) + count_locals c.locals ≤ 4400)
     × Sized (Then (IsList (λ _. IsGroup) c.locals) (Then (IsCode 0 c.body) IsEnd)) bytes
 
 abbrev pub IsSegment : Module → DataSegment → List ℕ → Type 0
-IsSegment m s bytes = (s.offset + length s.bytes ≤ least_size m.memories * 65536)
+IsSegment m s bytes = (s.offset + length s.bytes ≤ least m.memories * 65536)
     × Then (IsIndex (length m.memories) 0) (Then (IsConstant (value.I32 s.offset)) (Sized (λ b. b ≡ s.bytes))) bytes
 
 -- ---- sections
@@ -258,18 +247,8 @@ pub record IsSection {A : Type 0} (id : ℕ) (one : List A → A → List ℕ �
   pub skipped : AreCustom customs
   pub is : ((section ≡ []) × (xs ≡ [])) ⊎ Byte id (Sized (IsList one xs)) section
 
--- an export `main` is a defined function of no parameters and no result
-pub record HasMain (m : Module) : Type 0 where
-  pub main : Export
-  pub number : ℕ
-  pub exported : Contains m.exports main
-  pub name : main.name ≡ 109 ∷ 97 ∷ 105 ∷ 110 ∷ []
-  pub is_function : main.kind ≡ kind.Function
-  pub defined : main.index ≡ length m.imports + number
-  pub type : function_type m number ≡ Some (record { parameters = []; result = None })
-
--- the lists of a module are within the limits
-pub record IsWithin (m : Module) : Type 0 where
+-- the numbers of the entries of a module are within the limits, and each defined function has code
+pub record CountsAreWithin (m : Module) : Type 0 where
   pub types : length m.types ≤ 10000
   pub functions : length m.functions ≤ 10000
   pub tables : length m.tables ≤ 1
@@ -292,5 +271,9 @@ pub record ModuleBytes (bytes : List ℕ) (m : Module) : Type 0 where
   pub rest : List ℕ
   pub parts : bytes ≡ header ++ rest
   pub sections : AreSections m rest
-  pub within : IsWithin m
+  pub counts : CountsAreWithin m
   pub main : HasMain m
+
+-- some bytes spell the module
+abbrev pub IsSpelled : Module → Type 0
+IsSpelled m = (bytes : List ℕ) × All (λ b. b < 256) bytes × ModuleBytes bytes m

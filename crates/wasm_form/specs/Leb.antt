@@ -7,11 +7,11 @@ abbrev pub IsLast : Bool → ℕ → ℕ → ℕ → Type 0
 IsLast false bits b n = (b < 2 ^ bits) × (n ≡ b)
 IsLast true bits b n = ((b < 64) × (b < 2 ^ (bits - 1)) × (n ≡ b)) ⊎ ((64 ≤ b) × (128 ≤ b + 2 ^ (bits - 1)) × (n + 128 ≡ 2 ^ bits + b))
 
--- These bytes are a number of so many bits, signed or not, in at most as many bytes as the bits need.
+-- A list of bytes is a number of so many bits, signed or not: at most as many bytes as the bits need.
 abbrev pub IsNumber : Bool → ℕ → List ℕ → ℕ → Type 0
 IsNumber signed bits [] n = ⊥
 IsNumber signed bits (b ∷ []) n = (b < 128) × IsLast signed bits b n
-IsNumber signed bits (b ∷ c ∷ bs) n = (128 ≤ b) × (b < 256) × (7 < bits) × (high : ℕ) × (n + 128 ≡ b + 128 * high) × IsNumber signed (bits - 7) (c ∷ bs) high
+IsNumber signed bits (b ∷ c ∷ bs) n = (128 ≤ b) × (7 < bits) × (high : ℕ) × (n + 128 ≡ b + 128 * high) × IsNumber signed (bits - 7) (c ∷ bs) high
 
 -- the fewest bytes, at most k, of an unsigned number
 unfoldable pub shortest_in : ℕ → ℕ → List ℕ

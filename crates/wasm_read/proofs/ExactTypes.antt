@@ -1,5 +1,5 @@
 -- Types are read exactly as they are spelled.
-use Rattle.std.proofs.Common.{◌≡◌, ℕ, suc, ◌≤◌, Bool, true, false, cond, eqb, List, [], ◌∷◌, ◌++◌, length, Option, Some, None, Result, Ok, Err, refl, sym, ap, subst, ◌∙◌, append_assoc, arith, inl, inr}
+use Rattle.std.proofs.Common.{◌≡◌, ℕ, ◌≤◌, Bool, true, false, cond, eqb, List, [], ◌∷◌, ◌++◌, length, Option, Some, None, Result, Ok, Err, refl, sym, ap, subst, ◌∙◌, append_assoc, arith, inl, inr}
 use Rattle.std.specs.Prelude.{nat_lt, ◌==◌}
 use Rattle.std.proofs.lemmas.List.{append-nil}
 use Rattle.std.proofs.lemmas.Bool.{lt-ltb, le-ltb, ltb-true, ltb-false, eqb-true}
@@ -16,30 +16,29 @@ use Rattle.wasm_read.specs.Reading.{◌>>=◌, Reader, u32_at, list_at, count_at
 use Rattle.wasm_read.specs.Types.{value_type_at, value_type_by, parameters_at, result_at, type_at}
 use Rattle.wasm_read.proofs.Leads.{ok_is}
 use Rattle.wasm_read.proofs.Numbers.{chosen, bind_ok}
-use Rattle.wasm_read.proofs.Exact.{AreBytes, Takes, Exact, rest_bytes, takes_then, exact_u32, items_found, items_only}
+use Rattle.wasm_read.proofs.Exact.{Takes, Exact, takes_then, exact_u32, items_found, items_only}
 
 -- a test that let a number pass
-guard_ok : {A : Type 0} (b : Bool) (d : Fault) (x y : A) → cond b (Err d) (Ok x) ≡ Ok y → (b ≡ false) × (x ≡ y)
+pub guard_ok : {A : Type 0} (b : Bool) (d : Fault) (x y : A) → cond b (Err d) (Ok x) ≡ Ok y → (b ≡ false) × (x ≡ y)
 guard_ok true d x y e = absurd cc
 guard_ok false d x y e = (refl, cc)
 
-count_found : (limit : ℕ) (fault : Fault) (bytes : List ℕ) (x : ℕ × List ℕ) → AreBytes bytes → count_at limit fault bytes ≡ Ok x → (x.0 ≤ limit) × Takes (IsU32 x.0) bytes x.1
-count_found limit fault bytes x h e =
+pub count_found : (limit : ℕ) (fault : Fault) (bytes : List ℕ) (x : ℕ × List ℕ) → count_at limit fault bytes ≡ Ok x → (x.0 ≤ limit) × Takes (IsU32 x.0) bytes x.1
+count_found limit fault bytes x e =
     let k = bind_ok (u32_at bytes) (λ n. cond (nat_lt limit n.0) (Err fault) (Ok n)) x e in
     let g = guard_ok (nat_lt limit k.0.0) fault k.0 x k.2 in
-    subst (λ (y : ℕ × List ℕ). (y.0 ≤ limit) × Takes (IsU32 y.0) bytes y.1) g.1 (ltb-false limit k.0.0 g.0, exact_u32.found bytes k.0 h k.1)
+    subst (λ (y : ℕ × List ℕ). (y.0 ≤ limit) × Takes (IsU32 y.0) bytes y.1) g.1 (ltb-false limit k.0.0 g.0, exact_u32.found bytes k.0 k.1)
 
-count_only : (limit n : ℕ) (fault : Fault) (front rest : List ℕ) → n ≤ limit → IsU32 n front → count_at limit fault (front ++ rest) ≡ Ok (n, rest)
+pub count_only : (limit n : ℕ) (fault : Fault) (front rest : List ℕ) → n ≤ limit → IsU32 n front → count_at limit fault (front ++ rest) ≡ Ok (n, rest)
 count_only limit n fault front rest le h = rw (exact_u32.only n front rest h, le-ltb limit n le) refl
 
 -- a list of at most so many elements
 pub exact_counted : {A : Type 0} (limit : ℕ) (fault : Fault) (P : List A → A → List ℕ → Type 0) (one : List A → Reader A) → ((before : List A) → Exact (P before) (one before)) → Exact (λ xs bytes. (length xs ≤ limit) × IsList P xs bytes) (counted limit fault one)
 exact_counted limit fault P one exact = record {
-  found = λ bytes x h e.
+  found = λ bytes x e.
       let k = bind_ok (count_at limit fault bytes) (λ n. list_at one [] n.0 n.1) x e in
-      let first = count_found limit fault bytes k.0 h k.1 in
-      let left = rest_bytes (IsU32 k.0.0) bytes k.0.1 h first.1 in
-      let others = items_found P one exact k.0.0 [] k.0.1 x left k.2 in
+      let first = count_found limit fault bytes k.0 k.1 in
+      let others = items_found P one exact k.0.0 [] k.0.1 x k.2 in
       let whole = takes_then (IsU32 k.0.0) (AreItems P [] others.0) bytes k.0.1 x.1 first.1 others.3 in
       let all = subst (λ n. Takes (Then (IsU32 n) (AreItems P [] others.0)) bytes x.1) (sym others.2) whole in
       let few : length others.0 ≤ limit = omega (arith, others.2, first.0) in
@@ -55,11 +54,11 @@ exact_counted limit fault P one exact = record {
 -- an index below a number
 pub exact_index : (limit : ℕ) → Exact (IsIndex limit) (index_at limit)
 exact_index limit = record {
-  found = λ bytes x h e.
+  found = λ bytes x e.
       let k = bind_ok (u32_at bytes) (λ n. cond (nat_lt n.0 limit) (Ok n) (Err NotModule)) x e in
       elim (chosen (nat_lt k.0.0 limit) _ _ _ k.2) [
         | inl p ↦
-            let t = exact_u32.found bytes k.0 h k.1 in
+            let t = exact_u32.found bytes k.0 k.1 in
             subst (λ (y : ℕ × List ℕ). Takes (IsIndex limit y.0) bytes y.1) (ok_is k.0 x p.1) (record { front = t.front; parts = t.parts; is = (ltb-true k.0.0 limit p.0, t.is) })
         | inr p ↦ absurd cc
       ];
@@ -68,11 +67,11 @@ exact_index limit = record {
 
 -- ---- types of values
 
-no_way_out : {A : Type 0} (b : Bool) (d f : Fault) (x : A) → cond b (Err d) (Err f) ≡ Ok x → ⊥
+pub no_way_out : {A : Type 0} (b : Bool) (d f : Fault) (x : A) → cond b (Err d) (Err f) ≡ Ok x → ⊥
 no_way_out true d f x e = cc
 no_way_out false d f x e = cc
 
-value_found : (b : ℕ) (rest : List ℕ) (x : ValueType × List ℕ) → value_type_by b rest ≡ Ok x → Takes (IsValueType x.0) (b ∷ rest) x.1
+pub value_found : (b : ℕ) (rest : List ℕ) (x : ValueType × List ℕ) → value_type_by b rest ≡ Ok x → Takes (IsValueType x.0) (b ∷ rest) x.1
 value_found b rest x e = elim (chosen (eqb b 0x7f) _ _ _ e) [
   | inl p ↦ subst (λ (y : ValueType × List ℕ). Takes (IsValueType y.0) (b ∷ rest) y.1) (ok_is (value_type.I32, rest) x p.1) (record { front = b ∷ []; parts = refl; is = (eqb-true b 0x7f p.0, refl) })
   | inr p ↦ elim (chosen (eqb b 0x7e) _ _ _ p.1) [
@@ -91,7 +90,7 @@ value_only value_type.I32 (c ∷ front) rest h = rw (h.0, h.1) refl
 value_only value_type.I64 (c ∷ front) rest h = rw (h.0, h.1) refl
 
 pub exact_value_type : Exact IsValueType value_type_at
-exact_value_type = record { found = λ bytes x h e. value_bytes_found bytes x e; only = value_only }
+exact_value_type = record { found = λ bytes x e. value_bytes_found bytes x e; only = value_only }
 
 -- ---- types of functions
 
@@ -104,11 +103,11 @@ IsResult r bytes = IsList (λ _. IsValueType) (result_list r) bytes
 no_items : (front back bytes : List ℕ) → bytes ≡ front ++ back → IsU32 0 front → back ≡ [] → IsResult None bytes
 no_items front back bytes parts h none = record { front = front; back = back; parts = parts; first = h; second = none }
 
-result_found : (bytes : List ℕ) (x : Option ValueType × List ℕ) → AreBytes bytes → result_at bytes ≡ Ok x → Takes (IsResult x.0) bytes x.1
+result_found : (bytes : List ℕ) (x : Option ValueType × List ℕ) → result_at bytes ≡ Ok x → Takes (IsResult x.0) bytes x.1
 unfolding result_at
-result_found bytes x h e =
+result_found bytes x e =
     let k = bind_ok (u32_at bytes) (λ n. cond (n.0 == 0) (Ok (None, n.1)) (cond (n.0 == 1) (value_type_at n.1 >>= λ t. Ok (Some t.0, t.1)) (Err NotModule))) x e in
-    let first = exact_u32.found bytes k.0 h k.1 in
+    let first = exact_u32.found bytes k.0 k.1 in
     elim (chosen (k.0.0 == 0) _ _ _ k.2) [
       | inl p ↦
           let number : IsU32 0 first.front = subst (λ n. IsU32 n first.front) (eqb-true k.0.0 0 p.0) first.is in
@@ -143,17 +142,15 @@ result_only (Some t) front rest h =
 exact_result : Exact IsResult result_at
 exact_result = record { found = result_found; only = result_only }
 
-type_found : (bytes : List ℕ) (x : FunctionType × List ℕ) → AreBytes bytes → type_at bytes ≡ Ok x → Takes (IsType x.0) bytes x.1
+type_found : (bytes : List ℕ) (x : FunctionType × List ℕ) → type_at bytes ≡ Ok x → Takes (IsType x.0) bytes x.1
 unfolding type_at
-type_found [] x h e = absurd cc
-type_found (b ∷ rest) x h e = elim (chosen (b == 0x60) _ _ _ e) [
+type_found [] x e = absurd cc
+type_found (b ∷ rest) x e = elim (chosen (b == 0x60) _ _ _ e) [
   | inl p ↦
-      let left : AreBytes rest = λ i. h (suc i) in
       let k = bind_ok (parameters_at rest) (λ ps. result_at ps.1 >>= λ r. Ok (record { parameters = ps.0; result = r.0 }, r.1)) x p.1 in
-      let first = exact_parameters.found rest k.0 left k.1 in
-      let less = rest_bytes (λ bs. (length k.0.0 ≤ 64) × IsList (λ _. IsValueType) k.0.0 bs) rest k.0.1 left first in
+      let first = exact_parameters.found rest k.0 k.1 in
       let r = bind_ok (result_at k.0.1) (λ r. Ok (record { parameters = k.0.0; result = r.0 }, r.1)) x k.2 in
-      let second = result_found k.0.1 r.0 less r.1 in
+      let second = result_found k.0.1 r.0 r.1 in
       let made : FunctionType × List ℕ = (record { parameters = k.0.0; result = r.0.0 }, r.0.1) in
       subst (λ (y : FunctionType × List ℕ). Takes (IsType y.0) (b ∷ rest) y.1) (ok_is made x r.2)
       (record {

@@ -7,3 +7,16 @@ pub mod Customs
 pub mod Numbers
 pub mod Exact
 pub mod ExactTypes
+pub mod Parts
+pub mod ExactPlain
+pub mod ExactCode
+pub mod ExactTables
+pub mod ExactImports
+pub mod ExactGlobals
+pub mod ExactSegments
+pub mod ExactSections
+pub mod ExactMain
+pub mod ExactModule
+pub mod ModuleLaws
+pub mod AnswerLaws
+mod Examples

@@ -1,5 +1,5 @@
 -- A number that is read is spelled so, and one that is spelled so is read, whatever follows.
-use Rattle.std.proofs.Common.{◌≡◌, ℕ, suc, ◌+◌, ◌-◌, ◌*◌, ◌^◌, ◌<◌, ◌≤◌, Bool, true, false, cond, ltb, leb, List, [], ◌∷◌, ◌++◌, get_or, Option, Some, None, Result, Ok, Err, refl, sym, ap, subst, arith, ◌⊎◌, inl, inr}
+use Rattle.std.proofs.Common.{◌≡◌, ℕ, ◌+◌, ◌-◌, ◌*◌, ◌^◌, ◌<◌, ◌≤◌, Bool, true, false, cond, ltb, leb, List, [], ◌∷◌, ◌++◌, Option, Some, None, Result, Ok, Err, refl, sym, ap, subst, arith, ◌⊎◌, inl, inr}
 use Rattle.std.proofs.lemmas.Bool.{lt-ltb, le-ltb, ltb-true, ltb-false, leb-true, le-leb}
 use Rattle.std.proofs.Math.Pow.{pow_mono}
 use Rattle.wasm_form.specs.Leb.{IsLast, IsNumber}
@@ -66,32 +66,32 @@ unfolding number_at
 number_only signed bits [] n rest h = absurd h
 number_only signed bits (b ∷ []) n rest h = rw (lt-ltb b 128 h.0, last_only signed bits b n h.1) refl
 number_only signed bits (b ∷ c ∷ bs) n rest h =
-    let k = number_only signed (bits - 7) (c ∷ bs) h.3 rest h.5 in
-    let e : b - 128 + 128 * h.3 ≡ n = omega (arith, h.4, h.0) in
-    rw (le-ltb b 128 h.0, lt-ltb 7 bits h.2, k, e) refl
+    let k = number_only signed (bits - 7) (c ∷ bs) h.2 rest h.4 in
+    let e : b - 128 + 128 * h.2 ≡ n = omega (arith, h.3, h.0) in
+    rw (le-ltb b 128 h.0, lt-ltb 7 bits h.1, k, e) refl
 
-more : (signed : Bool) (bits b : ℕ) (bytes : List ℕ) (x : ℕ × List ℕ) → 128 ≤ b → b < 256 → 7 < bits → Spelled (IsNumber signed (bits - 7)) bytes x → Spelled (IsNumber signed bits) (b ∷ bytes) (b - 128 + 128 * x.0, x.1)
-more signed bits b bytes x lo hi many s = go s.front s.parts s.is
+more : (signed : Bool) (bits b : ℕ) (bytes : List ℕ) (x : ℕ × List ℕ) → 128 ≤ b → 7 < bits → Spelled (IsNumber signed (bits - 7)) bytes x → Spelled (IsNumber signed bits) (b ∷ bytes) (b - 128 + 128 * x.0, x.1)
+more signed bits b bytes x lo many s = go s.front s.parts s.is
   where
     go : (front : List ℕ) → bytes ≡ front ++ x.1 → IsNumber signed (bits - 7) front x.0 → Spelled (IsNumber signed bits) (b ∷ bytes) (b - 128 + 128 * x.0, x.1)
     go [] p h = absurd h
-    go (c ∷ cs) p h = record { front = b ∷ c ∷ cs; parts = ap (λ (l : List ℕ). b ∷ l) p; is = (lo, hi, many, x.0, omega arith, h) }
+    go (c ∷ cs) p h = record { front = b ∷ c ∷ cs; parts = ap (λ (l : List ℕ). b ∷ l) p; is = (lo, many, x.0, omega arith, h) }
 
 one_byte : (signed : Bool) (bits b : ℕ) (rest : List ℕ) (x : ℕ × List ℕ) (o : Option ℕ) → b < 128 → last_of signed bits b ≡ o → or_fault o rest ≡ Ok x → Spelled (IsNumber signed bits) (b ∷ rest) x
 one_byte signed bits b rest x None small is e = absurd cc
 one_byte signed bits b rest x (Some n) small is e = subst (λ (y : ℕ × List ℕ). Spelled (IsNumber signed bits) (b ∷ rest) y) (ok_is (n, rest) x e) (record { front = b ∷ []; parts = refl; is = (small, last_found signed bits b n is) })
 
 -- what is read is spelled so
-pub number_found : (signed : Bool) (bits : ℕ) (bytes : List ℕ) (x : ℕ × List ℕ) → ((i : ℕ) → get_or bytes i 0 < 256) → number_at signed bits bytes ≡ Ok x → Spelled (IsNumber signed bits) bytes x
+pub number_found : (signed : Bool) (bits : ℕ) (bytes : List ℕ) (x : ℕ × List ℕ) → number_at signed bits bytes ≡ Ok x → Spelled (IsNumber signed bits) bytes x
 unfolding number_at
-number_found signed bits [] x f e = absurd cc
-number_found signed bits (b ∷ bytes) x f e = elim (chosen (ltb b 128) _ _ _ e) [
+number_found signed bits [] x e = absurd cc
+number_found signed bits (b ∷ bytes) x e = elim (chosen (ltb b 128) _ _ _ e) [
   | inl p ↦ one_byte signed bits b bytes x (last_of signed bits b) (ltb-true b 128 p.0) refl p.1
   | inr p ↦ elim (chosen (ltb 7 bits) _ _ _ p.1) [
     | inl q ↦
         let k = bind_ok (number_at signed (bits - 7) bytes) (λ y. Ok (b - 128 + 128 * y.0, y.1)) x q.1 in
-        let s = number_found signed (bits - 7) bytes k.0 (λ i. f (suc i)) k.1 in
-        subst (λ (y : ℕ × List ℕ). Spelled (IsNumber signed bits) (b ∷ bytes) y) (ok_is (b - 128 + 128 * k.0.0, k.0.1) x k.2) (more signed bits b bytes k.0 (ltb-false b 128 p.0) (f 0) (ltb-true 7 bits q.0) s)
+        let s = number_found signed (bits - 7) bytes k.0 k.1 in
+        subst (λ (y : ℕ × List ℕ). Spelled (IsNumber signed bits) (b ∷ bytes) y) (ok_is (b - 128 + 128 * k.0.0, k.0.1) x k.2) (more signed bits b bytes k.0 (ltb-false b 128 p.0) (ltb-true 7 bits q.0) s)
     | inr q ↦ absurd cc
   ]
 ]

@@ -5,3 +5,4 @@ pub mod Codes
 pub mod Entries
 pub mod Sections
 pub mod Answers
+pub mod Laws

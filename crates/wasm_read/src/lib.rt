@@ -7,6 +7,7 @@ mod fault;
 mod globals;
 mod imports;
 mod input;
+mod laws;
 mod module;
 mod number;
 mod opcodes;
@@ -16,6 +17,7 @@ mod segments;
 mod types;
 
 pub use fault::ReadError;
+pub use laws::spelling_law;
 pub use module::read_module;
 
 #[cfg(test)]

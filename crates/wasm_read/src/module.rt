@@ -1,10 +1,12 @@
 //! A module (Core 1.0, 5.5.15).
 
-ghost use Rattle.std.specs.Prelude.{◌≡◌, ◌^◌, ◌<◌, length};
+ghost use Rattle.std.specs.Prelude.{◌≡◌, ◌^◌, ◌<◌, length, IfOk};
+ghost use Rattle.wasm_form.specs.Bytes.{ModuleBytes};
+ghost use Rattle.wasm_form.specs.Within.{IsWithin};
 ghost use Rattle.wasm_read.specs.Reading.{Gives};
 ghost use Rattle.wasm_read.specs.Sections.{header_at, first_at, last_at, function_count, is_nothing, is_start, is_main, has_main, module_at};
 ghost use Rattle.wasm_read.specs.Entries.{type_named};
-ghost use Rattle.wasm_read.specs.Answers.{Answers, error_at};
+ghost use Rattle.wasm_read.specs.Answers.{Answers, ReadsEach, error_at};
 
 use crate::counts::Counts;
 use crate::fault::{Fault, ReadError, Stop};
@@ -158,8 +160,21 @@ fn module_of(alloc: Global, bytes: &[u8]) -> Result<Module, Stop>
     Ok(module)
 }
 
-/// The module that the bytes spell, or their first fault.
+/// The module that the bytes spell, which is within the limits and has a main, or their first
+/// fault from left to right. `NotModule`, `OutsideProfile` and `Limit` come at the first fault,
+/// and `NoMain` where the bytes have no other fault (Core 1.0, 5).
 pub fn read_module(alloc: Global, bytes: &[u8]) -> Result<Module, ReadError>
+    requires { length bytes.now < 2 ^ 32 }
+    ensures found { IfOk result (λ m. ModuleBytes bytes.now m) }
+    ensures only { ReadsEach bytes.now result }
+    ensures within { IfOk result (λ m. IsWithin m) }
+    ensures first_fault { Answers bytes.now result (module_at bytes.now) }
+{
+    answer_of(alloc, bytes)
+}
+
+/// The answer, by the function on lists of bytes.
+fn answer_of(alloc: Global, bytes: &[u8]) -> Result<Module, ReadError>
     requires { length bytes.now < 2 ^ 32 }
     ensures { Answers bytes.now result (module_at bytes.now) }
 {

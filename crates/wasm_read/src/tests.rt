@@ -46,7 +46,7 @@ fn changed(alloc: Global, from: usize, to: usize, bytes: &[u8]) -> Result<Vec<u8
 
 #[test]
 fn changes(rt: HostRuntime) -> Result<(), Fail> {
-    let rows: [(usize, usize, &[u8], Option<ReadError>); 16] = [
+    let rows: [(usize, usize, &[u8], Option<ReadError>); 24] = [
         // A number in more bytes than it needs, and in too many.
         (9, 10, &[0x84, 0x00], None),
         (
@@ -105,7 +105,22 @@ fn changes(rt: HostRuntime) -> Result<(), Fail> {
                 what: Outside::Start,
             }),
         ),
-        // Custom sections: one of the name `a`, and one of a name that is not UTF-8.
+        // The import section behind the function section.
+        (
+            18,
+            18,
+            &[0x02, 0x01, 0x00],
+            Some(ReadError::NotModule { at: 18 }),
+        ),
+        // A section of an empty list, and one of no bytes.
+        (18, 18, &[0x04, 0x01, 0x00], None),
+        (18, 18, &[0x04, 0x00], Some(ReadError::NotModule { at: 20 })),
+        // A custom section of the name `a` before, between and behind the others.
+        (8, 8, &[0x00, 0x02, 0x01, 0x61], None),
+        (18, 18, &[0x00, 0x02, 0x01, 0x61], None),
+        (28, 28, &[0x00, 0x02, 0x01, 0x61], None),
+        (34, 34, &[0x00, 0x02, 0x01, 0x61], None),
+        // Two custom sections, and one of a name that is not UTF-8.
         (
             14,
             14,
@@ -118,6 +133,8 @@ fn changes(rt: HostRuntime) -> Result<(), Fail> {
             &[0x00, 0x02, 0x01, 0xff],
             Some(ReadError::NotModule { at: 17 }),
         ),
+        // An export of a name that is not UTF-8.
+        (25, 26, &[0xff], Some(ReadError::NotModule { at: 25 })),
         // No code section, and one of two entries.
         (28, 34, &[], Some(ReadError::NotModule { at: 28 })),
         (30, 31, &[0x02], Some(ReadError::NotModule { at: 30 })),
@@ -181,7 +198,25 @@ fn section(
 
 #[test]
 fn limits(rt: HostRuntime) -> Result<(), Fail> {
-    let rows: [(u8, &[u8], &[u8], u32, &[u8], ReadError); 13] = [
+    let rows: [(u8, &[u8], &[u8], u32, &[u8], ReadError); 15] = [
+        // The largest count that is taken, and then no entry.
+        (
+            3,
+            &[0x90, 0x4e],
+            &[],
+            0,
+            &[],
+            ReadError::NotModule { at: 16 },
+        ),
+        (
+            7,
+            &[0x90, 0x4e],
+            &[],
+            0,
+            &[],
+            ReadError::NotModule { at: 16 },
+        ),
+        // Each limit at its number, and one past it.
         (
             1,
             &[0x90, 0x4e],

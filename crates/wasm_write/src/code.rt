@@ -13,7 +13,7 @@ use wasm_form::{BlockType, CodeEntry, Instr, MemArg};
 
 /// Writes an instruction.
 #[cycle(code)]
-#[tactic(auto, using(crate::proofs::Codes::instr_is))]
+#[tactic(auto, using(wasm_form::proofs::Codes::instr_is))]
 pub(crate) fn push_instr(alloc: Global, out: &mut Vec<u8>, instr: &Instr) -> Result<(), AllocError>
     ensures { OnOk result (out.new.items ≡ out.old.items ++ instr_shortest instr.now) }
 {
@@ -23,7 +23,7 @@ pub(crate) fn push_instr(alloc: Global, out: &mut Vec<u8>, instr: &Instr) -> Res
 
 /// Writes what follows the opcode of an instruction.
 #[cycle(code)]
-#[tactic(auto, using(crate::proofs::Codes::concat_map))]
+#[tactic(auto, using(wasm_form::proofs::Codes::concat_map))]
 fn push_immediates(alloc: Global, out: &mut Vec<u8>, instr: &Instr) -> Result<(), AllocError>
     ensures { OnOk result (out.new.items ≡ out.old.items ++ immediates_of instr.now) }
 {

@@ -2,7 +2,8 @@ use Rattle.std.proofs.Common.{◌≡◌, ℕ, List, [], ◌∷◌, ◌++◌, map
 use Rattle.std.specs.List.{flat_map}
 use Rattle.wasm_form.specs.Leb.{unsigned_shortest}
 use Rattle.wasm_form.specs.Shortest.{immediates_of, instr_shortest, block_type_byte, second_shortest, list_shortest}
-use Rattle.wasm_write.proofs.Codes.{second_is, block_is, loop_is, if_is, br_table_is, call_indirect_is, two_pieces, three_pieces, last_call}
+use Rattle.wasm_form.proofs.Codes.{second_is, block_is, loop_is, if_is, br_table_is, call_indirect_is}
+use Rattle.wasm_write.proofs.Codes.{two_pieces, three_pieces, last_call}
 use Rattle.wasm_write.proofs.code.+code.Goals as goal
 
 pub push_immediates-returns-in-Block : goal.push_immediates-returns-in-Block
