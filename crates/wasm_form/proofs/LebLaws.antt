@@ -4,7 +4,7 @@ use Rattle.std.specs.List.{AllByRecursion}
 use Rattle.std.proofs.Math.Pow.{pow_mono}
 use Rattle.std.proofs.lemmas.Bool.{cases_lt, lt-ltb, le-ltb}
 use Rattle.std.proofs.lemmas.Nat.{pow-add}
-use Rattle.wasm_form.specs.Leb.{IsNumber, shortest_in, group_of, shortest_signed_in, unsigned_shortest, signed_shortest, i32_shortest, i64_shortest}
+use Rattle.wasm_form.specs.Leb.{IsLast, IsNumber, shortest_in, group_of, shortest_signed_in, unsigned_shortest, signed_shortest, i32_shortest, i64_shortest}
 
 -- each number is a byte
 abbrev pub AreBytes : List ℕ → Type 0
