@@ -1,3 +1,4 @@
+pub mod Scoped
 pub mod Form
 pub mod FormReading
 pub mod Run

@@ -4,6 +4,7 @@
 mod form;
 mod judged;
 mod lower;
+mod scope;
 mod texts;
 mod tool;
 mod words;
