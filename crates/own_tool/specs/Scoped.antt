@@ -18,10 +18,15 @@ use Rattle.own_tool.specs.declared.scope.Binding.{Binding}
 abbrev pub is_among : List ℕ → List (List ℕ) → Bool
 is_among word words = list_any (λ w. bytes_eq w word) words
 
+-- a place with one more before it
+abbrev pub behind_one : Option ℕ → Option ℕ
+behind_one (Some k) = Some (suc k)
+behind_one None = None
+
 -- the place of a name among the types
 abbrev pub type_in : List (List ℕ) → List ℕ → Option ℕ
 type_in [] name = None
-type_in (type ∷ types) name = if bytes_eq type name then Some 0 else elim (type_in types name) [ Some k ↦ Some (suc k) | None ↦ None ]
+type_in (type ∷ types) name = if bytes_eq type name then Some 0 else behind_one (type_in types name)
 
 abbrev pub sort_in : List Binding → List ℕ → Option Sort
 sort_in [] name = None
@@ -101,9 +106,14 @@ IsShortSum scope e = IsSum scope e × (atoms e ≤ most_atoms)
 
 -- ---- the values of a `let`
 
+-- the sort of the values of a type
+abbrev pub sort_of : Option ℕ → Option Sort
+sort_of (Some k) = Some (sort.Struct k)
+sort_of None = None
+
 -- the type that a path names alone
 abbrev pub type_named : List (List ℕ) → Option (List ℕ) → Option Sort
-type_named types (Some name) = elim (type_in types name) [ Some k ↦ Some (sort.Struct k) | None ↦ None ]
+type_named types (Some name) = sort_of (type_in types name)
 type_named types None = None
 
 abbrev pub callee_sort : List (List ℕ) → Exp → Option Sort

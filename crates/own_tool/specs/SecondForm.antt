@@ -6,7 +6,7 @@ use Rattle.own_tree.specs.declared.tree.Path.{Path}
 use Rattle.own_tree.specs.declared.tree.Root.TheVariants as root
 use Rattle.own_tree.specs.declared.tree.Keyword.TheVariants as keyword
 use Rattle.own_tree.specs.declared.tree.BinaryOperator.TheVariants as operator
-use Rattle.own_tree.specs.Source.{Exp, number, text, path, consumed, binary, call, value, Args, no_args, arg, Stm, let_in, ignore, evaluate, Stms, no_stms, stm, block, field, deinitializer, Decl, struct_of, function, File}
+use Rattle.own_tree.specs.Source.{Exp, number, text, path, consumed, binary, call, value, Args, no_args, arg, Stm, let_in, ignore, evaluate, Stms, no_stms, stm, block, field, deinitializer, Decl, struct_of, function, Fun, File}
 use Rattle.own_tool.specs.Form.{Text, span, till, Stands, run, past, Blanks, begins_with, begins_lower, Ends, SpellsNumber, path_of, is_end}
 use Rattle.own_tool.specs.Scoped.{IsScoped}
 
@@ -161,16 +161,20 @@ abbrev pub tokens_of : Stms → ℕ
 tokens_of no_stms = 0
 tokens_of (stm s ss) = statement_tokens s + tokens_of ss
 
--- the tree of a text with these structs, up to `start`, and these statements, the `}` of which stands at `close`
+-- the `main` that begins at `start`, with these statements, the `}` of which stands at `close`
+abbrev pub main_of : (start : ℕ) → Stms → (close : ℕ) → Fun
+main_of start ss close = record {
+  span = span start (close + 1);
+  name = name_from (codes "main") (start + 5);
+  parameters = [];
+  result = None;
+  body = block (span (start + 12) (close + 1)) ss;
+}
+
+-- the tree of a text with these structs and this `main`
 abbrev pub file_of : List Decl → (start : ℕ) → Stms → (close : ℕ) → File
 file_of structs start ss close = record {
-  declarations = structs ++ function (record {
-    span = span start (close + 1);
-    name = name_from (codes "main") (start + 5);
-    parameters = [];
-    result = None;
-    body = block (span (start + 12) (close + 1)) ss;
-  }) ∷ [];
+  declarations = structs ++ function (main_of start ss close) ∷ [];
   main = span (close + 2) (close + 6);
   tokens = 20 * length structs + (9 + tokens_of ss);
 }
