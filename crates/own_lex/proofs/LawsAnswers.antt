@@ -9,8 +9,8 @@ use Rattle.own_tree.specs.declared.token.Token.{Token}
 use Rattle.own_tree.specs.Characters.{Text}
 use Rattle.own_tree.specs.Tokens.{Ending, Done, Broken, Stopped, Lexes, Reads, Tokens, after_mark}
 use Rattle.own_tree.specs.Tokens as rules
-use Rattle.own_lex.specs.declared.error.LexError.{LexError}
-use Rattle.own_lex.specs.declared.error.LexError.TheVariants as error
+use Rattle.own_tree.specs.declared.error.LexError.{LexError}
+use Rattle.own_tree.specs.declared.error.LexError.TheVariants as error
 use Rattle.own_lex.specs.Reading.{Bytes, lex_on}
 use Rattle.own_lex.specs.Lexed.{Gives, in_place, lexed_chars, lexed}
 use Rattle.own_lex.specs.Refusals.{HasTokens, Refuses, MayRefuse}

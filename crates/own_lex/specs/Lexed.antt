@@ -6,8 +6,8 @@ use Rattle.own_tree.specs.declared.limits.TheConstants.{MOST_TEXT_BYTES}
 use Rattle.own_tree.specs.declared.token.Token.{Token}
 use Rattle.own_tree.specs.Characters.{Text}
 use Rattle.own_tree.specs.Tokens.{after_mark}
-use Rattle.own_lex.specs.declared.error.LexError.{LexError}
-use Rattle.own_lex.specs.declared.error.LexError.TheVariants as error
+use Rattle.own_tree.specs.declared.error.LexError.{LexError}
+use Rattle.own_tree.specs.declared.error.LexError.TheVariants as error
 use Rattle.own_lex.specs.declared.fault.Fault.{Fault}
 use Rattle.own_lex.specs.declared.fault.Fault.TheVariants as fault
 use Rattle.own_lex.specs.Reading.{Bytes, lex_on}

@@ -6,8 +6,8 @@ use Rattle.own_tree.specs.declared.token.Token.{Token}
 use Rattle.own_tree.specs.Characters.{Text, place}
 use Rattle.own_tree.specs.Tokens.{Fault, Ending, Broken, Stopped, Reads, Tokens}
 use Rattle.own_tree.specs.Tokens as rules
-use Rattle.own_lex.specs.declared.error.LexError.{LexError}
-use Rattle.own_lex.specs.declared.error.LexError.TheVariants as error
+use Rattle.own_tree.specs.declared.error.LexError.{LexError}
+use Rattle.own_tree.specs.declared.error.LexError.TheVariants as error
 use Rattle.own_lex.specs.Reading.{Bytes}
 
 -- The text is short enough, and has these tokens, few enough.

@@ -1,7 +1,7 @@
 ghost use Rattle.std.specs.Prelude.{◌≡◌, ◌-◌};
 ghost use Rattle.own_lex.specs.declared.fault.Fault.TheVariants.{Memory};
 
-use crate::error::LexError;
+use own_tree::LexError;
 use std::alloc::{AllocError, AllocFailed};
 
 /// Why no token could be read. A place is the number of bytes that were left there.

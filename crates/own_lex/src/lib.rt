@@ -11,7 +11,6 @@ ghost use Rattle.own_lex.specs.Refusals.{HasTokens, MayRefuse, Refuses};
 
 mod character;
 mod comment;
-mod error;
 mod fault;
 mod mark;
 mod number;
@@ -22,7 +21,7 @@ mod tests;
 mod text;
 mod word;
 
-pub use error::LexError;
+pub use own_tree::LexError;
 use own_tree::limits::MOST_TEXT_BYTES;
 use own_tree::{Row, Token};
 use rest::Rest;

@@ -4,3 +4,7 @@ pub mod Spelling
 pub mod Status
 pub mod Tokens
 pub mod View
+pub mod TypedSource
+pub mod TypedView
+pub mod OpSource
+pub mod OpView

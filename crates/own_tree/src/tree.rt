@@ -40,6 +40,7 @@ pub struct StructDeclaration {
     pub members: Row<StructMember>,
 }
 
+/// What stands in the braces of a struct.
 #[derive(Drop)]
 pub enum StructMember {
     Field(Field),
@@ -57,6 +58,7 @@ pub struct Field {
     pub written: Name,
 }
 
+/// An `init`, at most one of which a struct has.
 #[derive(Drop)]
 pub struct Initializer {
     pub span: Span,
@@ -64,12 +66,14 @@ pub struct Initializer {
     pub block: Block,
 }
 
+/// A `deinit` (SE-0390).
 #[derive(Drop)]
 pub struct Deinitializer {
     pub span: Span,
     pub block: Block,
 }
 
+/// A function of a type, and the modifier of its `self` where one is written.
 #[derive(Drop)]
 pub struct Method {
     pub span: Span,
@@ -77,6 +81,7 @@ pub struct Method {
     pub function: FunctionDeclaration,
 }
 
+/// What a method does with `self` (SE-0377; `mutating` is Swift's own).
 #[derive(Clone, Copy, Debug, PartialEq, Eq)]
 pub enum MethodMode {
     Borrowing,
@@ -94,6 +99,7 @@ pub struct FunctionDeclaration {
     pub block: Block,
 }
 
+/// An enum (SE-0390: `noncopyable` where `: ~Copyable` stands after its name).
 #[derive(Drop)]
 pub struct EnumDeclaration {
     pub span: Span,
@@ -102,6 +108,7 @@ pub struct EnumDeclaration {
     pub members: Row<EnumMember>,
 }
 
+/// What stands in the braces of an enum.
 #[derive(Drop)]
 pub enum EnumMember {
     /// The items of one `case`.
@@ -110,6 +117,7 @@ pub enum EnumMember {
     Method(Method),
 }
 
+/// One name of a `case`, and the written types of its payloads.
 #[derive(Drop)]
 pub struct CaseItem {
     pub span: Span,
@@ -117,6 +125,7 @@ pub struct CaseItem {
     pub payloads: Row<Name>,
 }
 
+/// A parameter of a function, method or `init`.
 #[derive(Drop)]
 pub struct Parameter {
     pub span: Span,
@@ -133,6 +142,7 @@ pub enum Label {
     Other(Name),
 }
 
+/// The written type of a parameter: a name with its modifier, or a function type.
 #[derive(Drop)]
 pub enum ParameterType {
     Named {
@@ -147,6 +157,7 @@ pub enum ParameterType {
     },
 }
 
+/// A parameter inside a function type.
 #[derive(Drop)]
 pub struct FunctionParameter {
     pub span: Span,
@@ -154,6 +165,7 @@ pub struct FunctionParameter {
     pub name: Name,
 }
 
+/// The modifier of a parameter (SE-0377).
 #[derive(Clone, Copy, Debug, PartialEq, Eq)]
 pub enum PassingMode {
     Borrowing,
@@ -183,18 +195,21 @@ pub struct Path {
     pub fields: Row<Name>,
 }
 
+/// What a path begins with.
 #[derive(Drop)]
 pub enum Root {
     Named(Name),
     SelfWord(Span),
 }
 
+/// A mark that stands right before its part: `-` or `!`.
 #[derive(Clone, Copy, Debug, PartialEq, Eq)]
 pub enum PrefixOperator {
     Minus,
     Not,
 }
 
+/// An operator between two parts. `Wrapping` are those with `&`, which do not trap.
 #[derive(Clone, Copy, Debug, PartialEq, Eq)]
 pub enum BinaryOperator {
     Or,
@@ -215,6 +230,7 @@ pub enum BinaryOperator {
     TimesWrapping,
 }
 
+/// `=`, or an operator with a `=` after it.
 #[derive(Clone, Copy, Debug, PartialEq, Eq)]
 pub enum AssignOperator {
     Plain,
@@ -232,6 +248,7 @@ pub enum RangeOperator {
     Closed,
 }
 
+/// A pattern of a `case` (SE-0432 for noncopyable subjects).
 #[derive(Drop)]
 pub enum Pattern {
     Any(Span),
@@ -254,6 +271,7 @@ pub enum LetPattern {
     Truth(Span, bool),
 }
 
+/// An expression.
 #[cycle(tree)]
 #[derive(Drop)]
 pub enum Expr {
@@ -280,6 +298,7 @@ pub enum Expr {
     CallClosure(Span, Boxed<Expr>, Closure),
 }
 
+/// An argument of a call, with its label where one is written.
 #[cycle(tree)]
 #[derive(Drop)]
 pub struct Argument {
@@ -305,6 +324,7 @@ pub struct Closure {
     pub statements: Items<Stmt>,
 }
 
+/// A statement.
 #[cycle(tree)]
 #[derive(Drop)]
 pub enum Stmt {
@@ -342,6 +362,7 @@ pub struct Clause {
     pub statements: Items<Stmt>,
 }
 
+/// What stands before the `:` of a clause.
 #[cycle(tree)]
 #[derive(Drop)]
 pub enum Head {
@@ -351,6 +372,7 @@ pub enum Head {
     Default,
 }
 
+/// The statements between two braces, and the span of both braces and what is between.
 #[cycle(tree)]
 #[derive(Drop)]
 pub struct Block {
