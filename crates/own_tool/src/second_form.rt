@@ -181,3 +181,6 @@ pub(crate) fn read_form(alloc: Global, text: &[u8]) -> Result<Option<Tree>, Allo
         Err(Unread::Memory) => Err(AllocError),
     }
 }
+
+#[cfg(test)]
+mod tests;
