@@ -1,3 +1,4 @@
+pub mod FindingSteps
 pub mod FormComplete
 pub mod FormFacts
 pub mod FormLaws

@@ -9,3 +9,4 @@ pub mod Texts
 pub mod Headline
 pub mod Saying
 pub mod Judged
+pub mod MainSize

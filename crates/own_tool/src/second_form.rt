@@ -11,7 +11,7 @@ ghost use Rattle.own_tool.specs.SecondForm.{IsSecondForm};
 ghost use Rattle.own_tool.specs.FormReading.{text_view, Gives};
 ghost use Rattle.own_tool.specs.SecondFormReading as reading;
 
-mod names;
+pub(crate) mod names;
 mod operand;
 mod statement;
 mod structs;
@@ -21,8 +21,8 @@ mod value;
 use crate::form::look::{begins_close, is_end, past_blanks, past_word, skip, start_of};
 use crate::form::position::Position;
 use crate::form::unread::Unread;
-use own_meaning::Binding;
 use names::name_from;
+use own_meaning::Binding;
 use own_tree::limits::MOST_TEXT_BYTES;
 use own_tree::tree::{Block, Declaration, FunctionDeclaration, Stmt, Tree};
 use own_tree::{Bytes, Row, Span};

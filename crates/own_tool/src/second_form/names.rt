@@ -35,7 +35,7 @@ pub(crate) fn sort_of(scope: &[Binding], word: &[u8]) -> Option<Sort>
 
 /// How many types are declared before the one of this name.
 pub(crate) fn type_of(types: &[Bytes], word: &[u8]) -> Option<u32>
-    requires few { length types.now ≤ 20 }
+    requires few { length types.now < 2 ^ 32 }
     ensures { result ≡ scoped.type_in types.now word.now }
 {
     let mut left = types;

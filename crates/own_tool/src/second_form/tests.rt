@@ -44,8 +44,18 @@ const STRUCTS: [(&[u8], &[u8], &[u8], bool); 14] = [
     (b"Selfish", b"Integer", b"end", true),
     (b"A", b"B", b"", false),
     (b"A", b"B", b"end1", false),
-    (b"A", b"B", b"abcdefghijabcdefghijabcdefghijABCDEFGHIJ", true),
-    (b"A", b"B", b"abcdefghijabcdefghijabcdefghijABCDEFGHIJk", false),
+    (
+        b"A",
+        b"B",
+        b"abcdefghijabcdefghijabcdefghijABCDEFGHIJ",
+        true,
+    ),
+    (
+        b"A",
+        b"B",
+        b"abcdefghijabcdefghijabcdefghijABCDEFGHIJk",
+        false,
+    ),
 ];
 
 fn push_struct(text: &mut Vec<u8>, name: &[u8], word: &[u8]) -> Result<(), AllocError> {
@@ -99,7 +109,10 @@ fn struct_spans(declaration: &Declaration) -> Option<[Span; 9]> {
     let Declaration::Struct(tree) = declaration else {
         return None;
     };
-    let [StructMember::Field(field), StructMember::Deinitializer(deinit)] = tree.members.as_slice()
+    let [
+        StructMember::Field(field),
+        StructMember::Deinitializer(deinit),
+    ] = tree.members.as_slice()
     else {
         return None;
     };
@@ -179,8 +192,33 @@ fn one_tree(rt: HostRuntime) -> Result<(), Fail> {
     let [first, main] = tree.declarations.as_slice() else {
         return Err(Fail::from("two declarations"));
     };
-    assert_eq!(rt; struct_spans(first), Some([at(0, 65), at(7, 8), at(24, 34), at(31, 34), at(37, 63), at(44, 63), at(46, 61), at(52, 57), at(59, 60)]));
-    assert_eq!(rt; main_spans(main), Some([at(66, 115), at(82, 97), at(90, 97), at(90, 91), at(92, 93), at(100, 113), at(104, 113), at(112, 113)]));
+    assert_eq!(rt;
+        struct_spans(first),
+        Some([
+            at(0, 65),
+            at(7, 8),
+            at(24, 34),
+            at(31, 34),
+            at(37, 63),
+            at(44, 63),
+            at(46, 61),
+            at(52, 57),
+            at(59, 60)
+        ])
+    );
+    assert_eq!(rt;
+        main_spans(main),
+        Some([
+            at(66, 115),
+            at(82, 97),
+            at(90, 97),
+            at(90, 91),
+            at(92, 93),
+            at(100, 113),
+            at(104, 113),
+            at(112, 113)
+        ])
+    );
     assert_eq!(rt; tree.tokens, 42);
     Ok(())
 }
