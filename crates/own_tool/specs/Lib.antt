@@ -10,3 +10,4 @@ pub mod Headline
 pub mod Saying
 pub mod Judged
 pub mod MainSize
+pub mod FindingTexts
