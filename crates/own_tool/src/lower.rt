@@ -26,6 +26,14 @@ const TRAP: u32 = 2;
 
 const MAIN: u32 = 3;
 
+/// The local of a name.
+#[derive(Debug, Drop)]
+pub(crate) struct Local {
+    pub name: Bytes,
+    /// The struct whose `deinit` its value is to run: none for an `Int`, and none where the value has moved.
+    pub deinit: Option<u32>,
+}
+
 /// The local of a name, or past those of all names.
 fn local_of(names: &[Bytes], name: &[u8]) -> u32
     requires { length names.now ≤ 200 }
