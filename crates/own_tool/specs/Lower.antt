@@ -1,5 +1,5 @@
 -- The module that a text of the second form becomes.
-use Rattle.std.specs.Prelude.{ℕ, zero, suc, if◌then◌else◌, List, [], ◌∷◌, ◌++◌, Option, Some, None, length, map, codes}
+use Rattle.std.specs.Prelude.{ℕ, zero, suc, ◌≤◌, if◌then◌else◌, List, [], ◌∷◌, ◌++◌, Option, Some, None, length, map, codes}
 use Rattle.std.specs.Str.{bytes_eq}
 use Rattle.wasm_form.specs.declared.instr.Instr.{Instr}
 use Rattle.wasm_form.specs.declared.instr.Instr.TheVariants as i
@@ -11,7 +11,7 @@ use Rattle.own_tool.specs.declared.lower.Local.{Local}
 use Rattle.own_tree.specs.declared.tree.Path.{Path}
 use Rattle.own_tree.specs.declared.tree.Root.TheVariants as root
 use Rattle.own_tree.specs.Source.{Exp, number, text, path, consumed, binary, call, Given, value, Args, no_args, arg, Stm, let_in, ignore, evaluate, Stms, no_stms, stm, Blk, block, Member, field, deinitializer, Decl, struct_of, function, File}
-use Rattle.own_meaning.specs.Scoped.{type_in}
+use Rattle.own_meaning.specs.Scoped.{type_in, statements}
 use Rattle.own_meaning.specs.Findings.{types_of}
 
 -- the functions of the module: three of the host, and then main
@@ -39,10 +39,14 @@ abbrev pub emptied : List Local → List ℕ → List Local
 emptied [] name = []
 emptied (l ∷ locals) name = if bytes_eq l.name name then record { name = l.name; deinit = None } ∷ locals else l ∷ emptied locals name
 
+-- how many names stand before a name
+abbrev pub position_of : List Local → List ℕ → ℕ
+position_of [] name = zero
+position_of (l ∷ locals) name = if bytes_eq l.name name then zero else suc (position_of locals name)
+
 -- local 0 holds a sum while it is tested, so that the names have those from 1 on
 abbrev pub local_of : List Local → List ℕ → ℕ
-local_of [] name = 1
-local_of (l ∷ locals) name = if bytes_eq l.name name then 1 else suc (local_of locals name)
+local_of locals name = suc (position_of locals name)
 
 -- the name that a path begins with
 abbrev pub root_of : Path → List ℕ
@@ -107,10 +111,14 @@ abbrev pub member_word : List Member → List ℕ
 member_word (field f ∷ deinitializer s body ∷ []) = block_word body
 member_word members = []
 
+abbrev pub declaration_word : Decl → List ℕ
+declaration_word (struct_of s name noncopyable members) = member_word members
+declaration_word d = []
+
+-- that of the struct that is declared after so many others
 abbrev pub word_of : List Decl → ℕ → List ℕ
 word_of [] k = []
-word_of (struct_of s name noncopyable members ∷ ds) zero = member_word members
-word_of (d ∷ ds) zero = []
+word_of (d ∷ ds) zero = declaration_word d
 word_of (d ∷ ds) (suc k) = word_of ds k
 
 -- the `deinit` of the value in a local prints its word, a space and its field
@@ -195,3 +203,13 @@ lowered_in all ds = module_with 1 (i.Unreachable ∷ [])
 
 unfoldable pub lowered : File → Module
 lowered file = lowered_in file.declarations file.declarations
+
+-- ---- how long a text is, so that its locals have numbers
+
+abbrev pub IsShortBody : Blk → Type 0
+IsShortBody (block s ss) = statements ss ≤ 200
+
+abbrev pub AreShortBodies : List Decl → Type 0
+AreShortBodies (struct_of s name noncopyable members ∷ ds) = AreShortBodies ds
+AreShortBodies (function main ∷ []) = IsShortBody main.body
+AreShortBodies ds = Unit {0}
