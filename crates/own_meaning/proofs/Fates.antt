@@ -16,18 +16,20 @@ held_in number (instance t i v) = one_if number i
 held_in number (int z) = 0
 held_in number hole = 0
 
-abbrev pub held : ℕ → Store → ℕ
-held number [] = 0
-held number (v ∷ vs) = held_in number v.1 + held number vs
-
 abbrev pub instances_in : Val → ℕ
 instances_in (instance t i v) = 1
 instances_in (int z) = 0
 instances_in hole = 0
 
+abbrev pub total : (Val → ℕ) → Store → ℕ
+total count [] = 0
+total count (v ∷ vs) = count v.1 + total count vs
+
+abbrev pub held : ℕ → Store → ℕ
+held number store = total (held_in number) store
+
 abbrev pub instances : Store → ℕ
-instances [] = 0
-instances (v ∷ vs) = instances_in v.1 + instances vs
+instances store = total instances_in store
 
 -- ---- the stages of a number
 

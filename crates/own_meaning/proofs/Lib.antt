@@ -1,3 +1,4 @@
 pub mod Examples
 pub mod MoreTurns
 pub mod Fates
+pub mod Matching
