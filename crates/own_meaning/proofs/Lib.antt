@@ -2,3 +2,4 @@ pub mod Examples
 pub mod MoreTurns
 pub mod Fates
 pub mod Matching
+pub mod Accepted
