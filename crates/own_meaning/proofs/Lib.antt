@@ -3,3 +3,5 @@ pub mod MoreTurns
 pub mod Fates
 pub mod Matching
 pub mod Accepted
+pub mod Mains
+pub mod Runs
