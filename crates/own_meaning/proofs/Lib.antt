@@ -5,3 +5,6 @@ pub mod Matching
 pub mod Accepted
 pub mod Mains
 pub mod Runs
+pub mod Members
+pub mod Orders
+pub mod Straight
