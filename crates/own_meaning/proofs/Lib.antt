@@ -8,3 +8,4 @@ pub mod Runs
 pub mod Members
 pub mod Orders
 pub mod Straight
+pub mod OpFindings
