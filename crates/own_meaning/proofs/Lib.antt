@@ -9,3 +9,4 @@ pub mod Members
 pub mod Orders
 pub mod Straight
 pub mod OpFindings
+pub mod Broken

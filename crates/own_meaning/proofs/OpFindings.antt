@@ -81,7 +81,7 @@ pub below_append : (n : ℕ) (xs ys : List Op) → AreBelow n xs → AreBelow n 
 below_append n [] ys a b = b
 below_append n (x ∷ xs) ys a b = (a.0, below_append n xs ys a.1 b)
 
-below_at : (n : ℕ) (before : List Op) (o : Op) (after : List Op) → AreBelow n (before ++ o ∷ after) → KindFits o.kind (o.place.binding < n)
+pub below_at : (n : ℕ) (before : List Op) (o : Op) (after : List Op) → AreBelow n (before ++ o ∷ after) → KindFits o.kind (o.place.binding < n)
 below_at n [] o after a = a.0
 below_at n (x ∷ xs) o after a = below_at n xs o after a.1
 
@@ -99,7 +99,7 @@ spans_append (x ∷ xs) ys = by_kind (is_use x.kind) (spans_append xs ys)
 
 -- ---- in order
 
-abbrev StartsRise : ℕ → List Finding → Type 0
+abbrev pub StartsRise : ℕ → List Finding → Type 0
 StartsRise at [] = Unit {0}
 StartsRise at (f ∷ fs) = (at ≤ f.span.start) × StartsRise (suc f.span.start) fs
 
@@ -107,7 +107,7 @@ rise_from : (at earlier : ℕ) (fs : List Finding) → earlier ≤ at → Starts
 rise_from at earlier [] le r = tt
 rise_from at earlier (f ∷ fs) le r = (omega (arith, le, r.0), r.1)
 
-findings_rise : (at : ℕ) (before os : List Op) → AreSpread at (use_spans os) → StartsRise at (op_findings before os)
+pub findings_rise : (at : ℕ) (before os : List Op) → AreSpread at (use_spans os) → StartsRise at (op_findings before os)
 findings_rise at before [] spread = tt
 findings_rise at before (o ∷ os) spread = by_kind (is_use o.kind) spread (λ from rest. findings_rise from (before ++ o ∷ []) os rest)
   where
@@ -126,7 +126,7 @@ rise_in at (g ∷ fs) r f (inl e) = subst (λ (x : Finding). at ≤ x.span.start
 rise_in at (g ∷ fs) r f (inr h) = let later = rise_in (suc g.span.start) fs r.1 f h in omega (arith, later, r.0)
 
 -- each span has one finding
-rise_one : (at : ℕ) (fs : List Finding) → StartsRise at fs → (f g : Finding) → In fs f → In fs g → f.span ≡ g.span → f ≡ g
+pub rise_one : (at : ℕ) (fs : List Finding) → StartsRise at fs → (f g : Finding) → In fs f → In fs g → f.span ≡ g.span → f ≡ g
 rise_one at [] r f g a b e = absurd a
 rise_one at (x ∷ fs) r f g (inl a) (inl b) e = sym a ∙ b
 rise_one at (x ∷ fs) r f g (inl a) (inr b) e =
@@ -139,7 +139,7 @@ rise_one at (x ∷ fs) r f g (inr a) (inl b) e =
     absurd (omega (arith, later, same))
 rise_one at (x ∷ fs) r f g (inr a) (inr b) e = rise_one (suc x.span.start) fs r.1 f g a b e
 
-rising : (at : ℕ) (fs : List Finding) → StartsRise at fs → Rising fs
+pub rising : (at : ℕ) (fs : List Finding) → StartsRise at fs → Rising fs
 rising at [] r = tt
 rising at (f ∷ []) r = tt
 rising at (f ∷ g ∷ fs) r = (inl (inl r.1.0), rising (suc f.span.start) (g ∷ fs) r.1)
