@@ -10,3 +10,6 @@ pub mod Orders
 pub mod Straight
 pub mod OpFindings
 pub mod Broken
+pub mod Marked
+pub mod Segments
+pub mod Checked
