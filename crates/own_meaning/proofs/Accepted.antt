@@ -66,7 +66,9 @@ module _ (ds : List Decl) (lines : (name : List ℕ) (t : ℕ) → type_in (type
       → KeptFrom turns births store (stm (let_in s k name w (call at callee (arg label (value e) no_args))) ss)
   kept_construction ss goal names marks store turns births m s k name w at callee e label of is sum none fine =
       let c = constructed_is callee of is in
-      kept_of_type which births (held which store) (instances store + (statements ss + 1)) turns (constructed ds callee) c.0 _ c.1 (kept_number which births _ _ turns (value_of store e) _ (sum_number ds names marks store m e sum none) (λ z. kept_made which births _ _ turns c.0 _ (after c.0 c.3 c.2 z)))
+      kept_of_type which births (held which store) (instances store + (statements ss + 1)) turns (constructed ds callee) c.0
+      (λ t. with_number (value_of store e) (λ z. noted (made t (births + 1)) (statements_run ds turns (births + 1) (bound_to name.text (instance t (births + 1) (int z)) store) ss))) c.1
+      (kept_number which births _ _ turns (value_of store e) _ (sum_number ds names marks store m e sum none) (λ z. kept_made which births _ _ turns c.0 _ (after c.0 c.3 c.2 z)))
     where
       after : (t : ℕ) → ((i : ℕ) (z : ℤ) → HasLine ds (instance t i (int z))) → of ≡ sort.Struct t → (z : ℤ)
           → Kept which (births + 1) (one_if which (births + 1) + held which store) (instances store + (statements ss + 1)) turns (statements_run ds turns (births + 1) (bound_to name.text (instance t (births + 1) (int z)) store) ss)

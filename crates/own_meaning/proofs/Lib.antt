@@ -13,3 +13,4 @@ pub mod Broken
 pub mod Marked
 pub mod Segments
 pub mod Checked
+pub mod Laws

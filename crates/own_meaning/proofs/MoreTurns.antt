@@ -4,22 +4,15 @@ use Rattle.std.specs.Prelude.{◌≢◌, nat_le, if◌then◌else◌}
 use Rattle.own_tree.specs.declared.limits.TheConstants.{MOST_LEVELS}
 use Rattle.own_tree.specs.declared.tree.Name.{Name}
 use Rattle.own_tree.specs.Source.{path, consumed, call, value, no_args, arg, let_in, ignore, evaluate, Stms, no_stms, stm, Blk, block, Decl, struct_of, function, File}
+use Rattle.own_meaning.specs.Laws.{IsFront, GoesOn}
 use Rattle.own_meaning.specs.Run.{Val, int, instance, hole, Store, Event, Trapped, Cut, Behaviour, silent, written, noted, strayed, entered, turning, Sum, Gives, Overflows, Touches, Strays, value_in, number_of, at_path, value_of, with_number, with_taken, with_moved, line_of_type, with_line, destroyed, all_destroyed, line, constructed, MAIN_LEVEL, bound_to, statements_run, body_run, main_run, run}
-
--- the first stands at the front of the second
-abbrev pub IsFront : {A : Type 0} → List A → List A → Type 0
-IsFront front whole = (rest : List _) × (front ++ rest ≡ whole)
-
--- one behaviour is another, or it was cut and the other goes on
-abbrev pub GoesOn : Behaviour → Behaviour → Type 0
-GoesOn b c = (b ≡ c) ⊎ ((b.outcome ≡ Cut) × IsFront b.output c.output × IsFront b.events c.events)
 
 same : (b : Behaviour) → GoesOn b b
 same b = inl refl
 
 goes_on_written : (l : List ℕ) (b c : Behaviour) → GoesOn b c → GoesOn (written l b) (written l c)
 goes_on_written l b c (inl e) = inl (ap (written l) e)
-goes_on_written l b c (inr g) = inr (g.0, (g.1.0, append_assoc l b.output g.1.0 ∙ ap (λ more. l ++ more) g.1.1), g.2)
+goes_on_written l b c (inr g) = inr (g.0, (g.1.0, ap (λ more. l ++ more) g.1.1 ∙ sym (append_assoc l b.output g.1.0)), g.2)
 
 goes_on_noted : (e : Event) (b c : Behaviour) → GoesOn b c → GoesOn (noted e b) (noted e c)
 goes_on_noted e b c (inl same) = inl (ap (noted e) same)

@@ -5,15 +5,13 @@ use Rattle.own_tree.specs.Source.{Blk, block, File}
 use Rattle.own_meaning.specs.Scoped.{IsBody, IsScoped}
 use Rattle.own_meaning.specs.Findings.{types_of}
 use Rattle.own_meaning.specs.Marks.{block_findings, findings_of}
+use Rattle.own_meaning.specs.Laws.{most_turns, IsWhole}
 use Rattle.own_meaning.specs.Run.{Outcome, Ended, Trapped, Cut, Wrong, Behaviour, entered, turning, MAIN_LEVEL, body_run, main_run, run}
 use Rattle.own_meaning.specs.Once.{events_of, IsLife, IsMade, HasEnd, IsUntouched, EndsOnce}
 use Rattle.own_meaning.proofs.Fates.{Kept, kept_cut, kept_as, Stage, unborn, alive, gone, IsStage, Fits}
 use Rattle.own_meaning.proofs.Accepted.{kept_statements}
+use Rattle.own_meaning.proofs.MoreTurns.{same_with_more_turns}
 use Rattle.own_meaning.proofs.Mains.{HasMain, scoped_main, scoped_lines}
-
--- the turn of `main`, and one for each statement at most
-abbrev pub most_turns : ℕ
-most_turns = 201
 
 module _ (file : File) (scoped : IsScoped file) (accepted : findings_of file ≡ []) (which : ℕ) where
   kept_body : (left : ℕ) (body : Blk) → IsBody (types_of file.declarations) body → block_findings (types_of file.declarations) body ≡ [] → Kept which 0 0 200 left (body_run file.declarations left body)
@@ -52,13 +50,6 @@ ends_once file scoped accepted = record { lives = lives; ends = ends }
     ends input turns zero ended made = absurd (subst IsMade (fits input turns zero gone (omega arith, refl)) made)
     ends input turns (suc which) ended made = (fits input turns (suc which) unborn (omega arith, refl)).1 ended made
 
--- it ended, or trapped
-abbrev pub IsWhole : Outcome → Type 0
-IsWhole Ended = Unit {0}
-IsWhole (Trapped code at) = Unit {0}
-IsWhole Cut = ⊥
-IsWhole Wrong = ⊥
-
 whole : (outcome : Outcome) → outcome ≢ Wrong → outcome ≢ Cut → IsWhole outcome
 whole Ended right enough = tt
 whole (Trapped code at) right enough = tt
@@ -70,3 +61,7 @@ pub comes_out : (file : File) → IsScoped file → findings_of file ≡ [] → 
 comes_out file scoped accepted input turns le =
     let k = kept_run file scoped accepted 0 input turns in
     whole (run file input turns).outcome k.not_wrong (k.enough le)
+
+-- From 201 turns on the run of an accepted text is the same.
+pub settled : (file : File) → IsScoped file → findings_of file ≡ [] → (input : List ℤ) (turns : ℕ) → most_turns ≤ turns → run file input turns ≡ run file input most_turns
+settled file scoped accepted input turns le = same_with_more_turns file input most_turns turns le ((kept_run file scoped accepted 0 input most_turns).enough (omega arith))
