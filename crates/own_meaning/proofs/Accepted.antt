@@ -1,20 +1,19 @@
 -- A scoped text without findings touches no hole, ends each of its values once, and needs few turns.
-use Rattle.std.proofs.Common.{◌≡◌, ℕ, zero, suc, ◌+◌, ◌≤◌, ◌<◌, ◌⊎◌, ℤ, Bool, true, false, List, [], ◌∷◌, ◌++◌, Option, Some, None, inl, inr, refl, sym, ap, subst, ◌∙◌, arith}
-use Rattle.std.specs.Prelude.{◌≢◌, codes}
+use Rattle.std.proofs.Common.{◌≡◌, ℕ, ◌+◌, ℤ, List, [], ◌∷◌, ◌++◌, Option, Some, None, refl, sym, ap, subst, ◌∙◌, arith}
 use Rattle.own_tree.specs.declared.span.Span.{Span}
 use Rattle.own_tree.specs.declared.tree.Name.{Name}
 use Rattle.own_tree.specs.declared.tree.Path.{Path}
 use Rattle.own_tree.specs.declared.tree.Keyword.{Keyword}
-use Rattle.own_tree.specs.Source.{Exp, number, text, path, consumed, binary, call, Given, value, Args, no_args, arg, Stm, let_in, ignore, evaluate, Stms, no_stms, stm, Blk, block, Decl, struct_of, enum_of, function, File}
+use Rattle.own_tree.specs.Source.{Exp, number, path, consumed, binary, call, value, no_args, arg, let_in, ignore, evaluate, Stms, no_stms, stm, Decl}
 use Rattle.own_meaning.specs.declared.scope.Sort.{Sort}
 use Rattle.own_meaning.specs.declared.scope.Sort.TheVariants as sort
 use Rattle.own_meaning.specs.declared.scope.Binding.{Binding}
-use Rattle.own_meaning.specs.Scoped.{type_in, sort_in, alone, fields_sort, path_sort, IsSum, IsShortSum, type_named, callee_sort, value_sort, IsFieldArgument, IsValue, IsPrint, IsConsumed, IsStatement, bound, scope_after, AreStatements, statements}
+use Rattle.own_meaning.specs.Scoped.{type_in, sort_in, alone, fields_sort, path_sort, IsSum, type_named, callee_sort, bound, AreStatements, statements}
 use Rattle.own_meaning.specs.Findings.{types_of}
-use Rattle.own_meaning.specs.Marks.{Marks, consumed_at, with_consumed, root_name, use_findings, exp_findings, args_findings, stm_findings, marks_moved, marks_after_exp, marks_after, findings_from}
-use Rattle.own_meaning.specs.Run.{Val, int, instance, hole, Store, made, Outcome, Ended, Trapped, Cut, Wrong, Behaviour, silent, written, noted, strayed, OVERFLOW, Sum, Gives, Overflows, Touches, Strays, value_in, number_of, at_path, value_of, with_number, emptied, with_taken, with_moved, destroyed, line, constructed, MAIN_LEVEL, bound_to, statements_run}
-use Rattle.own_meaning.proofs.Fates.{held_in, instances_in, total, held, instances, one_if, Kept, kept_trap, kept_written, kept_made, kept_end, kept_as, kept_all, kept_destroyed, HasLine}
-use Rattle.own_meaning.proofs.Matching.{SlotFits, Matches, have_lines, Stands, some_is, found, matches_emptied, matches_bound, front_empty, back_empty, total_bound, total_emptied, Begins, begins, root_name_is, alone_is, at_path_is, struct_alone, field_int, not_consumed, IsNumber, path_number, sum_number}
+use Rattle.own_meaning.specs.Marks.{Marks, consumed_at, with_consumed, root_name, use_findings, exp_findings, marks_moved, findings_from}
+use Rattle.own_meaning.specs.Run.{Val, int, instance, Store, made, Behaviour, noted, strayed, OVERFLOW, Sum, Gives, Overflows, Touches, Strays, value_in, number_of, at_path, value_of, with_number, emptied, with_taken, with_moved, destroyed, line, constructed, MAIN_LEVEL, bound_to, statements_run}
+use Rattle.own_meaning.proofs.Fates.{held_in, instances_in, held, instances, one_if, Kept, kept_trap, kept_written, kept_made, kept_end, kept_as, kept_all, kept_destroyed, HasLine}
+use Rattle.own_meaning.proofs.Matching.{SlotFits, Matches, have_lines, some_is, found, matches_emptied, matches_bound, front_empty, back_empty, total_bound, total_emptied, begins, root_name_is, alone_is, struct_alone, field_int, not_consumed, IsNumber, path_number, sum_number}
 
 -- ---- steps
 

@@ -1,5 +1,5 @@
 -- What is read off the ops of a body is what breaks O1 in its traces.
-use Rattle.std.proofs.Common.{◌≡◌, ℕ, zero, suc, ◌<◌, ◌≤◌, ◌⊎◌, ◌↔◌, Bool, true, false, ◌&&◌, ◌||◌, List, [], ◌∷◌, ◌++◌, Option, Some, None, inl, inr, refl, sym, ap, ◌∙◌, subst, append_assoc, append-nil, arith, eq-eqb}
+use Rattle.std.proofs.Common.{◌≡◌, ℕ, ◌<◌, Bool, true, false, ◌&&◌, ◌||◌, List, [], ◌∷◌, ◌++◌, Option, Some, None, inl, inr, refl, sym, ap, ◌∙◌, subst, append_assoc, arith, eq-eqb}
 use Rattle.std.specs.Prelude.{Contains, IsTrue, if◌then◌else◌, ◌==◌}
 use Rattle.std.proofs.lemmas.Bool.{eqb-true, and_parts, or_cases}
 use Rattle.own_tree.specs.declared.finding.Finding.{Finding}
@@ -10,10 +10,10 @@ use Rattle.own_tree.specs.declared.op.OpKind.TheVariants as kind
 use Rattle.own_tree.specs.declared.place.Place.{Place}
 use Rattle.own_tree.specs.declared.span.Span.{Span}
 use Rattle.own_meaning.specs.Places.{whole, covers, overlaps, is_prefix}
-use Rattle.own_meaning.specs.Findings.{Mark, fresh, made, ended, bare, maker, kind_needs, needs, Uses, Reaches, IsGivenUp, BreaksO1, IsNotAfter, IsLeast, IsFinding, Rising, AreFindings}
+use Rattle.own_meaning.specs.Findings.{Mark, fresh, made, ended, bare, maker, kind_needs, needs, Uses, Reaches, IsGivenUp, BreaksO1, IsNotAfter, IsFinding, AreFindings}
 use Rattle.own_meaning.specs.Marks.{AreSpread}
 use Rattle.own_meaning.proofs.Members.{In, in_contains, contains_in, in_front, in_back, in_either}
-use Rattle.own_meaning.proofs.OpFindings.{is_use, cause_if, cause_in, broken_at, finding_if, finding_by, op_finding, op_findings, findings_append, KindFits, AreBelow, below_at, use_spans, findings_rise, rise_one, rising}
+use Rattle.own_meaning.proofs.OpFindings.{is_use, cause_if, cause_in, broken_at, finding_if, op_finding, op_findings, findings_append, KindFits, AreBelow, below_at, use_spans, findings_rise, rise_one, rising}
 
 -- ---- what a use needs
 

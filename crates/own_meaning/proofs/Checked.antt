@@ -1,6 +1,5 @@
 -- What is read off a scoped text from top to bottom is its list of findings.
-use Rattle.std.proofs.Common.{◌≡◌, ℕ, zero, suc, ◌+◌, ◌<◌, ◌≤◌, ◌↔◌, List, [], ◌∷◌, ◌++◌, length, map, refl, sym, ap, ◌∙◌, subst, append-nil, arith, inl, inr}
-use Rattle.std.specs.Prelude.{Contains}
+use Rattle.std.proofs.Common.{◌≡◌, ℕ, zero, suc, ◌+◌, ◌<◌, ◌↔◌, List, [], ◌∷◌, ◌++◌, length, map, refl, sym, ap, ◌∙◌, subst, append-nil, arith, inl, inr}
 use Rattle.own_tree.specs.declared.op.Op.{Op}
 use Rattle.own_tree.specs.declared.place.Place.{Place}
 use Rattle.own_tree.specs.declared.span.Span.{Span}
@@ -10,16 +9,16 @@ use Rattle.own_meaning.specs.declared.scope.Binding.{Binding}
 use Rattle.own_meaning.specs.Scoped.{IsBody, AreStatements, IsScoped}
 use Rattle.own_meaning.specs.Places.{whole}
 use Rattle.own_meaning.specs.Uses.{stms_ops, names_at_end, numbered, close_of, body_ops}
-use Rattle.own_meaning.specs.Traces.{Completion, returns, ends_at, end_of, IsTrace}
-use Rattle.own_meaning.specs.Findings.{Uses, Reaches, AreFindings, types_of, block_uses, main_uses, uses_of, IsSound}
+use Rattle.own_meaning.specs.Traces.{returns, ends_at, end_of, IsTrace}
+use Rattle.own_meaning.specs.Findings.{Uses, AreFindings, types_of, block_uses, uses_of, IsSound}
 use Rattle.own_meaning.specs.Marks.{block_findings, main_findings, findings_of, findings_from, stms_spans, AreSpread, IsBlockSpread, IsSpread}
 use Rattle.own_meaning.proofs.Members.{In, in_contains, contains_in}
 use Rattle.own_meaning.proofs.Orders.{one_list}
-use Rattle.own_meaning.proofs.Straight.{flat, body_tree, body_ops_are, body_trace}
+use Rattle.own_meaning.proofs.Straight.{flat, body_ops_are, body_trace}
 use Rattle.own_meaning.proofs.OpFindings.{op_findings, findings_append, AreBelow, below_append, use_spans, spans_append}
 use Rattle.own_meaning.proofs.Broken.{IsOneWay, are_findings}
 use Rattle.own_meaning.proofs.Segments.{Segment, stms_segment, stms_straight}
-use Rattle.own_meaning.proofs.Mains.{HasMain, scoped_main}
+use Rattle.own_meaning.proofs.Mains.{scoped_main}
 
 -- ---- leaves
 

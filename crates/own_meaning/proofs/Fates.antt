@@ -1,9 +1,9 @@
 -- What becomes of one number in what is left of a run, and how many turns that takes.
-use Rattle.std.proofs.Common.{◌≡◌, ℕ, zero, suc, ◌+◌, ◌≤◌, ◌<◌, ◌⊎◌, ℤ, Bool, true, false, List, [], ◌∷◌, Option, Some, None, inl, inr, refl, sym, ap, subst, ◌∙◌, arith, eq-eqb, ne_eqb, eqb}
+use Rattle.std.proofs.Common.{◌≡◌, ℕ, zero, suc, ◌+◌, ◌≤◌, ◌<◌, ◌⊎◌, List, [], ◌∷◌, Some, inl, inr, refl, sym, ap, subst, arith, eq-eqb, ne_eqb}
 use Rattle.std.specs.Prelude.{◌≢◌, ◌==◌, if◌then◌else◌}
 use Rattle.std.proofs.lemmas.Bool.{cases_eq}
 use Rattle.own_tree.specs.Source.{Decl}
-use Rattle.own_meaning.specs.Run.{Val, int, instance, hole, Store, Event, made, used, ended_by_deinit, ended_by_discard, Outcome, Ended, Trapped, Cut, Wrong, Behaviour, silent, written, noted, entered, turning, line_of_type, with_line, destroyed, all_destroyed, MAIN_LEVEL}
+use Rattle.own_meaning.specs.Run.{Val, int, instance, hole, Store, Event, made, ended_by_deinit, Outcome, Ended, Trapped, Cut, Wrong, Behaviour, silent, written, noted, line_of_type, destroyed, all_destroyed, MAIN_LEVEL}
 use Rattle.own_meaning.specs.Once.{number_of_event, events_of, IsLived, IsLife, HasEnd, IsMade}
 
 -- ---- how often a number stands in a store, and how many tracked values there are

@@ -1,7 +1,5 @@
 -- The laws that contracts cite.
-use Rattle.std.proofs.Common.{sym}
-use Rattle.own_tree.specs.Source.{File}
-use Rattle.own_meaning.specs.Laws.{FindingsAreReadOff, FindingsAreOneList, RunsGoOn, IsAccepted, RunsWell, AcceptedRunWell}
+use Rattle.own_meaning.specs.Laws.{FindingsAreReadOff, FindingsAreOneList, RunsGoOn, AcceptedRunWell}
 use Rattle.own_meaning.proofs.MoreTurns.{more_turns}
 use Rattle.own_meaning.proofs.Orders.{one_list}
 use Rattle.own_meaning.proofs.Checked.{findings_are, sound_where_none}

@@ -1,12 +1,12 @@
 -- The `main` of a scoped text, and the lines of its structs.
-use Rattle.std.proofs.Common.{◌≡◌, ℕ, zero, suc, ◌+◌, ◌≤◌, ℤ, Bool, true, false, List, [], ◌∷◌, ◌++◌, Option, Some, None, refl, sym, ap, subst, ◌∙◌, append_assoc}
-use Rattle.std.specs.Prelude.{if◌then◌else◌, codes}
+use Rattle.std.proofs.Common.{◌≡◌, ℕ, suc, ℤ, Bool, true, false, List, [], ◌∷◌, ◌++◌, Option, Some, None, refl, sym, ap, subst, append_assoc}
+use Rattle.std.specs.Prelude.{if◌then◌else◌}
 use Rattle.std.specs.Str.{bytes_eq}
-use Rattle.own_tree.specs.Source.{Exp, text, path, call, value, Args, no_args, arg, evaluate, Stms, no_stms, stm, Blk, block, Fun, Member, field, deinitializer, Decl, struct_of, function, File}
-use Rattle.own_meaning.specs.Scoped.{type_in, IsName, IsFarewellItems, IsFarewell, IsDeinit, AreMembers, IsBody, AreDeclared, IsScoped}
+use Rattle.own_tree.specs.Source.{text, path, call, value, Args, no_args, arg, evaluate, Stms, no_stms, stm, Blk, block, Member, field, deinitializer, Decl, struct_of, function, File}
+use Rattle.own_meaning.specs.Scoped.{type_in, IsFarewellItems, IsFarewell, IsDeinit, AreMembers, IsBody, AreDeclared, IsScoped}
 use Rattle.own_meaning.specs.Findings.{types_of, block_uses, main_uses}
 use Rattle.own_meaning.specs.Marks.{block_findings, main_findings, IsBlockSpread, IsMainSpread}
-use Rattle.own_meaning.specs.Run.{Val, int, instance, farewell_items, farewell, block_farewell, member_farewell, line_of_type, body_run, main_run}
+use Rattle.own_meaning.specs.Run.{int, instance, farewell_items, farewell, block_farewell, member_farewell, line_of_type, body_run, main_run}
 use Rattle.own_meaning.proofs.Fates.{HasLine}
 use Rattle.own_meaning.proofs.Matching.{some_is}
 

@@ -1,30 +1,18 @@
 -- The ops of a scoped `main`, with the marks of its names beside the makers of their leaves.
-use Rattle.std.proofs.Common.{◌≡◌, ℕ, zero, suc, ◌+◌, ◌<◌, ◌≤◌, ◌⊎◌, Bool, true, false, ◌&&◌, List, [], ◌∷◌, ◌++◌, length, map, Option, Some, None, inl, inr, refl, sym, ap, ◌∙◌, subst, append_assoc, append-nil, arith, eq-eqb, ne_eqb}
-use Rattle.std.specs.Prelude.{if◌then◌else◌, ◌==◌}
+use Rattle.std.proofs.Common.{◌≡◌, ℕ, suc, ◌+◌, ◌<◌, ◌⊎◌, Bool, true, false, ◌&&◌, List, [], ◌∷◌, ◌++◌, length, Some, None, inl, inr, refl, ap, ◌∙◌, arith, eq-eqb, ne_eqb}
+use Rattle.std.specs.Prelude.{if◌then◌else◌}
 use Rattle.std.specs.Str.{bytes_eq}
-use Rattle.own_tree.specs.declared.finding.Finding.{Finding}
 use Rattle.own_tree.specs.declared.op.Op.{Op}
-use Rattle.own_tree.specs.declared.op.OpKind.{OpKind}
 use Rattle.own_tree.specs.declared.op.OpKind.TheVariants as kind
 use Rattle.own_tree.specs.declared.place.Place.{Place}
-use Rattle.own_tree.specs.declared.span.Span.{Span}
-use Rattle.own_tree.specs.declared.tree.Name.{Name}
-use Rattle.own_tree.specs.declared.tree.Path.{Path}
-use Rattle.own_tree.specs.declared.tree.Root.TheVariants as root
-use Rattle.own_tree.specs.declared.tree.BinaryOperator.TheVariants as operator
-use Rattle.own_tree.specs.OpSource.{Ops, op, nothing, next, in_order}
-use Rattle.own_tree.specs.Source.{Exp, number, path, consumed, binary, call, Given, value, Args, no_args, arg, Stm, let_in, ignore, evaluate, Stms, no_stms, stm}
 use Rattle.own_meaning.specs.declared.scope.Sort.{Sort}
-use Rattle.own_meaning.specs.declared.scope.Sort.TheVariants as sort
 use Rattle.own_meaning.specs.declared.scope.Binding.{Binding}
-use Rattle.own_meaning.specs.Scoped.{sort_in, path_sort, fields_sort, IsAtom, IsSum, IsStatement, value_sort, bound, scope_after, AreStatements}
+use Rattle.own_meaning.specs.Scoped.{sort_in}
 use Rattle.own_meaning.specs.Places.{whole, covers}
-use Rattle.own_meaning.specs.Uses.{binding_of, root_binding, place_of, value_use, use_of, exp_ops, args_ops, given_ops, stm_ops, stms_ops, names_at_end}
-use Rattle.own_meaning.specs.Findings.{Mark, marked, mark_by, maker}
-use Rattle.own_meaning.specs.Marks.{Marks, consumed_at, with_consumed, root_name, use_findings, exp_findings, args_findings, stm_findings, marks_moved, marks_after_exp, marks_after, findings_from, exp_spans, args_spans, stm_spans, stms_spans}
-use Rattle.own_meaning.proofs.Matching.{some_is, Begins, begins, root_name_is, struct_alone}
-use Rattle.own_meaning.proofs.OpFindings.{cause_in, finding_if, op_finding, op_findings, findings_append, maker_after, AreBelow, below_append, use_spans, spans_append}
-use Rattle.own_meaning.proofs.Straight.{IsStraight, flat}
+use Rattle.own_meaning.specs.Uses.{binding_of}
+use Rattle.own_meaning.specs.Findings.{Mark, marked, maker}
+use Rattle.own_meaning.specs.Marks.{Marks, consumed_at, with_consumed}
+use Rattle.own_meaning.proofs.OpFindings.{cause_in, maker_after}
 
 -- ---- marks and makers
 

@@ -1,8 +1,7 @@
 -- A store, the names in scope and their marks, side by side.
-use Rattle.std.proofs.Common.{◌≡◌, ℕ, zero, suc, ◌+◌, ◌≤◌, ◌<◌, ◌⊎◌, ℤ, Bool, true, false, List, [], ◌∷◌, ◌++◌, Option, Some, None, inl, inr, refl, sym, ap, subst, ◌∙◌, arith}
-use Rattle.std.specs.Prelude.{◌≢◌, if◌then◌else◌, ◌+ℤ◌}
+use Rattle.std.proofs.Common.{◌≡◌, ℕ, ◌+◌, ℤ, Bool, true, false, List, [], ◌∷◌, ◌++◌, Option, Some, None, refl, sym, ap, subst, ◌∙◌, arith}
+use Rattle.std.specs.Prelude.{if◌then◌else◌, ◌+ℤ◌}
 use Rattle.std.specs.Str.{bytes_eq}
-use Rattle.own_tree.specs.declared.finding.Finding.{Finding}
 use Rattle.own_tree.specs.declared.span.Span.{Span}
 use Rattle.own_tree.specs.declared.tree.Name.{Name}
 use Rattle.own_tree.specs.declared.tree.Path.{Path}
@@ -13,7 +12,7 @@ use Rattle.own_tree.specs.Source.{Exp, number, path, binary, Decl}
 use Rattle.own_meaning.specs.declared.scope.Sort.{Sort}
 use Rattle.own_meaning.specs.declared.scope.Sort.TheVariants as sort
 use Rattle.own_meaning.specs.declared.scope.Binding.{Binding}
-use Rattle.own_meaning.specs.Scoped.{sort_in, alone, field_sort, fields_sort, path_sort, IsAtom, IsSum}
+use Rattle.own_meaning.specs.Scoped.{sort_in, alone, fields_sort, path_sort, IsAtom, IsSum}
 use Rattle.own_meaning.specs.Marks.{Marks, consumed_at, with_consumed, root_name, use_findings, exp_findings}
 use Rattle.own_meaning.specs.Run.{Val, int, instance, hole, Store, Sum, Gives, Overflows, Touches, Strays, ◌>>=◌, in_range, is_int, value_in, number_of, field_of, fields_of, at_path, value_of, emptied, bound_to}
 use Rattle.own_meaning.proofs.Fates.{total, HasLine, HaveLines}

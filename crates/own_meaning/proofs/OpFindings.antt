@@ -1,7 +1,6 @@
 -- The findings of a list of ops that are done one after another.
-use Rattle.std.proofs.Common.{◌≡◌, ℕ, zero, suc, ◌<◌, ◌≤◌, ◌⊎◌, ◌↔◌, Bool, true, false, ◌&&◌, ◌||◌, List, [], ◌∷◌, ◌++◌, Option, Some, None, inl, inr, refl, sym, ap, ◌∙◌, subst, append_assoc, append-nil, arith, eq-eqb}
-use Rattle.std.specs.Prelude.{Contains, IsTrue, if◌then◌else◌, ◌==◌}
-use Rattle.std.proofs.lemmas.Bool.{eqb-true, and_parts, or_cases}
+use Rattle.std.proofs.Common.{◌≡◌, ℕ, suc, ◌<◌, ◌≤◌, Bool, true, false, List, [], ◌∷◌, ◌++◌, Option, Some, None, inl, inr, refl, sym, ap, ◌∙◌, subst, append_assoc, append-nil, arith}
+use Rattle.std.specs.Prelude.{if◌then◌else◌}
 use Rattle.own_tree.specs.declared.finding.Finding.{Finding}
 use Rattle.own_tree.specs.declared.finding.Rule.TheVariants as rule
 use Rattle.own_tree.specs.declared.op.Op.{Op}
@@ -9,10 +8,10 @@ use Rattle.own_tree.specs.declared.op.OpKind.{OpKind}
 use Rattle.own_tree.specs.declared.op.OpKind.TheVariants as kind
 use Rattle.own_tree.specs.declared.place.Place.{Place}
 use Rattle.own_tree.specs.declared.span.Span.{Span}
-use Rattle.own_meaning.specs.Places.{whole, covers, overlaps, is_prefix}
-use Rattle.own_meaning.specs.Findings.{Mark, fresh, made, ended, bare, mark_by, mark_after, maker, kind_needs, needs, Uses, Reaches, IsGivenUp, BreaksO1, IsNotAfter, IsLeast, IsFinding, Rising, AreFindings}
+use Rattle.own_meaning.specs.Places.{whole}
+use Rattle.own_meaning.specs.Findings.{Mark, fresh, made, ended, bare, mark_by, mark_after, maker, Rising}
 use Rattle.own_meaning.specs.Marks.{AreSpread}
-use Rattle.own_meaning.proofs.Members.{In, in_contains, contains_in, in_front, in_back, in_either}
+use Rattle.own_meaning.proofs.Members.{In}
 
 -- ---- read off from the first op to the last
 

@@ -1,11 +1,10 @@
 -- Findings have one order: two lists of the same findings, each in order, are the same list.
-use Rattle.std.proofs.Common.{◌≡◌, ℕ, zero, suc, ◌<◌, ◌≤◌, ◌⊎◌, ◌↔◌, List, [], ◌∷◌, inl, inr, refl, sym, ap, ◌∙◌, subst, arith}
-use Rattle.std.specs.Prelude.{Contains}
+use Rattle.std.proofs.Common.{◌≡◌, ℕ, ◌<◌, ◌⊎◌, List, [], ◌∷◌, inl, inr, refl, sym, ap, ◌∙◌, subst, arith}
 use Rattle.own_tree.specs.declared.finding.Finding.{Finding}
 use Rattle.own_tree.specs.declared.place.Place.{Place}
 use Rattle.own_tree.specs.declared.span.Span.{Span}
 use Rattle.own_meaning.specs.Places.{FieldsBefore, PlaceBefore}
-use Rattle.own_meaning.specs.Findings.{Uses, IsFinding, rule_number, SpanBefore, Precedes, Rising, AreFindings}
+use Rattle.own_meaning.specs.Findings.{Uses, rule_number, SpanBefore, Precedes, Rising, AreFindings}
 use Rattle.own_meaning.proofs.Members.{In, in_contains, contains_in}
 
 -- ---- before is strict

@@ -1,17 +1,17 @@
 -- The runs of an accepted text: a scoped one without findings.
-use Rattle.std.proofs.Common.{◌≡◌, ℕ, zero, suc, ◌+◌, ◌≤◌, ◌⊎◌, ℤ, List, [], inl, inr, refl, sym, ap, subst, ◌∙◌, arith}
+use Rattle.std.proofs.Common.{◌≡◌, ℕ, zero, suc, ◌≤◌, ℤ, List, [], refl, sym, subst, ◌∙◌, arith}
 use Rattle.std.specs.Prelude.{◌≢◌}
 use Rattle.own_tree.specs.Source.{Blk, block, File}
 use Rattle.own_meaning.specs.Scoped.{IsBody, IsScoped}
 use Rattle.own_meaning.specs.Findings.{types_of}
 use Rattle.own_meaning.specs.Marks.{block_findings, findings_of}
 use Rattle.own_meaning.specs.Laws.{most_turns, IsWhole}
-use Rattle.own_meaning.specs.Run.{Outcome, Ended, Trapped, Cut, Wrong, Behaviour, entered, turning, MAIN_LEVEL, body_run, main_run, run}
+use Rattle.own_meaning.specs.Run.{Outcome, Ended, Trapped, Cut, Wrong, body_run, main_run, run}
 use Rattle.own_meaning.specs.Once.{events_of, IsLife, IsMade, HasEnd, IsUntouched, EndsOnce}
-use Rattle.own_meaning.proofs.Fates.{Kept, kept_cut, kept_as, Stage, unborn, alive, gone, IsStage, Fits}
+use Rattle.own_meaning.proofs.Fates.{Kept, kept_cut, kept_as, Stage, unborn, gone, IsStage, Fits}
 use Rattle.own_meaning.proofs.Accepted.{kept_statements}
 use Rattle.own_meaning.proofs.MoreTurns.{same_with_more_turns}
-use Rattle.own_meaning.proofs.Mains.{HasMain, scoped_main, scoped_lines}
+use Rattle.own_meaning.proofs.Mains.{scoped_main, scoped_lines}
 
 module _ (file : File) (scoped : IsScoped file) (accepted : findings_of file ≡ []) (which : ℕ) where
   kept_body : (left : ℕ) (body : Blk) → IsBody (types_of file.declarations) body → block_findings (types_of file.declarations) body ≡ [] → Kept which 0 0 200 left (body_run file.declarations left body)

@@ -1,28 +1,25 @@
 -- What is read off the statements of a scoped `main` is what is read off its ops.
-use Rattle.std.proofs.Common.{◌≡◌, ℕ, zero, suc, ◌+◌, ◌<◌, ◌≤◌, Bool, true, false, List, [], ◌∷◌, ◌++◌, length, map, Option, Some, None, refl, sym, ap, ◌∙◌, subst, append_assoc, append-nil, arith}
+use Rattle.std.proofs.Common.{◌≡◌, ℕ, ◌+◌, ◌<◌, ◌≤◌, List, [], ◌∷◌, ◌++◌, length, map, Option, Some, None, refl, sym, ap, ◌∙◌, subst, append_assoc, append-nil, arith}
 use Rattle.own_tree.specs.declared.finding.Finding.{Finding}
 use Rattle.own_tree.specs.declared.op.Op.{Op}
 use Rattle.own_tree.specs.declared.op.OpKind.{OpKind}
 use Rattle.own_tree.specs.declared.op.OpKind.TheVariants as kind
-use Rattle.own_tree.specs.declared.place.Place.{Place}
 use Rattle.own_tree.specs.declared.span.Span.{Span}
 use Rattle.own_tree.specs.declared.tree.Name.{Name}
 use Rattle.own_tree.specs.declared.tree.Path.{Path}
-use Rattle.own_tree.specs.declared.tree.Root.TheVariants as root
-use Rattle.own_tree.specs.declared.tree.BinaryOperator.TheVariants as operator
-use Rattle.own_tree.specs.OpSource.{Ops, op, nothing, next, in_order}
+use Rattle.own_tree.specs.OpSource.{in_order}
 use Rattle.own_tree.specs.Source.{Exp, path, consumed, binary, call, Given, value, Args, no_args, arg, Stm, let_in, ignore, evaluate, Stms, no_stms, stm}
 use Rattle.own_tree.specs.Source as source
 use Rattle.own_meaning.specs.declared.scope.Sort.{Sort}
 use Rattle.own_meaning.specs.declared.scope.Sort.TheVariants as sort
 use Rattle.own_meaning.specs.declared.scope.Binding.{Binding}
-use Rattle.own_meaning.specs.Scoped.{sort_in, path_sort, fields_sort, IsAtom, IsSum, IsValue, IsStatement, value_sort, bound, scope_after, AreStatements}
+use Rattle.own_meaning.specs.Scoped.{sort_in, path_sort, IsAtom, IsSum, IsValue, IsStatement, value_sort, bound, scope_after, AreStatements}
 use Rattle.own_meaning.specs.Places.{whole}
 use Rattle.own_meaning.specs.Uses.{binding_of, root_binding, place_of, value_use, exp_ops, args_ops, given_ops, stm_ops, stms_ops, names_at_end}
 use Rattle.own_meaning.specs.Findings.{maker}
 use Rattle.own_meaning.specs.Marks.{Marks, consumed_at, with_consumed, root_name, use_findings, exp_findings, stm_findings, marks_moved, marks_after_exp, marks_after, findings_from, exp_spans, stm_spans, stms_spans}
-use Rattle.own_meaning.proofs.Matching.{some_is, Begins, begins, root_name_is, struct_alone, field_int}
-use Rattle.own_meaning.proofs.OpFindings.{cause_in, finding_if, op_finding, op_findings, findings_append, AreBelow, below_append, use_spans, spans_append}
+use Rattle.own_meaning.proofs.Matching.{Begins, begins, root_name_is, struct_alone}
+use Rattle.own_meaning.proofs.OpFindings.{cause_in, finding_if, op_findings, findings_append, AreBelow, below_append, use_spans, spans_append}
 use Rattle.own_meaning.proofs.Straight.{IsStraight, flat}
 use Rattle.own_meaning.proofs.Marked.{MarksFit, mark_is, binding_below, fit_read, fit_consumed, fit_made}
 

@@ -2,8 +2,8 @@
 use Rattle.std.proofs.Common.{◌≡◌, ℕ, List, [], ◌∷◌, ◌++◌, refl, sym, ap, ◌∙◌, subst, append-nil}
 use Rattle.own_tree.specs.declared.op.Op.{Op}
 use Rattle.own_tree.specs.declared.span.Span.{Span}
-use Rattle.own_tree.specs.OpSource.{Ops, op, nothing, next, either, loop, catch, scope, break_at, continue_at, return_at, halt, in_order}
-use Rattle.own_meaning.specs.Traces.{Completion, goes_on, returns, ends_at, ends_for, After, Joined, IsTrace}
+use Rattle.own_tree.specs.OpSource.{Ops, op, nothing, next, scope, return_at, in_order}
+use Rattle.own_meaning.specs.Traces.{Completion, goes_on, returns, ends_at, ends_for, After, IsTrace}
 
 abbrev pub IsStraight : Ops → Type 0
 IsStraight (op o) = Unit {0}
