@@ -39,7 +39,7 @@ module _ (ds : List Decl) (lines : (name : List ℕ) (t : ℕ) → type_in (type
   abbrev pub Goal : Stms → Type 0
   Goal ss = (names : List Binding) (marks : Marks) (store : Store) (turns births : ℕ) → Matches ds names marks store → AreFine names marks ss → KeptFrom turns births store ss
 
-  -- a which for a new name
+  -- a number for a new name
   kept_int : (ss : Stms) → Goal ss → (names : List Binding) (marks : Marks) (store : Store) (turns births : ℕ) → Matches ds names marks store → (name : List ℕ) (z : ℤ)
       → AreFine (names ++ record { name = name; sort = sort.Int } ∷ []) (marks ++ (name, None) ∷ []) ss
       → Kept which births (held which store) (instances store + (statements ss + 1)) turns (statements_run ds turns births (bound_to name (int z) store) ss)

@@ -9,7 +9,10 @@ use Rattle.own_tree.specs.declared.tree.Root.TheVariants as root
 use Rattle.own_tree.specs.declared.tree.Keyword.TheVariants as keyword
 use Rattle.own_tree.specs.declared.tree.BinaryOperator.TheVariants as operator
 use Rattle.own_tree.specs.Source.{Exp, number, text, path, consumed, binary, call, value, Args, no_args, arg, Stm, let_in, ignore, evaluate, Stms, no_stms, stm, block, Member, field, deinitializer, Decl, struct_of, function, File}
-use Rattle.own_meaning.specs.Marks.{findings_of}
+use Rattle.std.proofs.Common.{arith}
+use Rattle.own_meaning.specs.declared.scope.Sort.TheVariants as sort
+use Rattle.own_meaning.specs.Scoped.{reserved, reserved_types, IsScoped}
+use Rattle.own_meaning.specs.Marks.{findings_of, IsSpread}
 use Rattle.own_meaning.specs.Run.{made, ended_by_deinit, Ended, Trapped, Cut, Wrong, run}
 
 abbrev span : (start end : ℕ) → Span
@@ -136,3 +139,38 @@ ignored_at_once = refl
 touches_a_hole : run (text_of (let_x ∷ let_y ∷ print_x ∷ let_z ∷ [])) [] 9 ≡ record { output = []; events = made 0 1 ∷ []; outcome = Wrong }
 unfolding run digits
 touches_a_hole = refl
+
+-- ---- the laws speak of this text
+
+worked : File
+worked = text_of (let_x ∷ let_y ∷ print_more ∷ let_z ∷ [])
+
+worked_is_scoped : IsScoped worked
+unfolding worked reserved reserved_types
+worked_is_scoped = (
+  refl,
+  refl,
+  (refl, refl, refl, (refl, (refl, refl))),
+  (
+    omega arith,
+    (
+      refl,
+      refl,
+      refl,
+      (
+        (
+          (refl, refl, refl, (refl, ((refl, omega arith), omega arith)), (sort.Struct 0, refl)),
+          (
+            (refl, refl, refl, tt, (sort.Struct 0, refl)),
+            (((refl, ((refl, (refl, omega arith), refl), omega arith))), ((refl, refl, refl, (refl, ((refl, omega arith), omega arith)), (sort.Struct 0, refl)), tt)),
+          ),
+        ),
+        omega arith,
+      ),
+    ),
+  ),
+)
+
+worked_is_spread : IsSpread worked
+unfolding worked
+worked_is_spread = omega arith

@@ -34,8 +34,8 @@ RunsGoOn = (file : File) (input : List ℤ) (m n : ℕ) → m ≤ n → GoesOn (
 
 -- ---- accepted texts
 
--- A text whose names resolve, whose paths stand one after another, and of which no path breaks a rule.
-pub record IsAccepted (file : File) : Type 0 where
+-- a tree whose names resolve, whose paths stand one after another, and none of whose ways breaks a rule
+pub record IsAcceptedTree (file : File) : Type 0 where
   pub scoped : IsScoped file
   pub spread : IsSpread file
   pub sound : IsSound file
@@ -58,4 +58,4 @@ pub record RunsWell (file : File) : Type 0 where
   pub comes_out : (input : List ℤ) (turns : ℕ) → most_turns ≤ turns → IsWhole (run file input turns).outcome
 
 abbrev pub AcceptedRunWell : Type 0
-AcceptedRunWell = (file : File) → IsAccepted file → RunsWell file
+AcceptedRunWell = (file : File) → IsAcceptedTree file → RunsWell file
