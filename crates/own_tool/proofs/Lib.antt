@@ -10,5 +10,10 @@ pub mod LowerSteps
 pub mod Opcodes
 pub mod Paths
 pub mod Statements
+pub mod SecondComplete
+pub mod SecondLoops
+pub mod SecondSound
+pub mod SecondTextComplete
+pub mod SecondTextSound
 pub mod Sums
 pub mod Whole

@@ -1,5 +1,8 @@
+pub mod Scoped
 pub mod Form
 pub mod FormReading
+pub mod SecondForm
+pub mod SecondFormReading
 pub mod Run
 pub mod Lower
 pub mod Words

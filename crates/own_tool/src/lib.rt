@@ -4,6 +4,8 @@
 mod form;
 mod judged;
 mod lower;
+mod scope;
+mod second_form;
 mod texts;
 mod tool;
 mod words;
