@@ -17,3 +17,4 @@ pub mod SecondTextComplete
 pub mod SecondTextSound
 pub mod Sums
 pub mod Whole
+pub mod Spread

@@ -8,7 +8,7 @@ use Rattle.own_tree.specs.declared.tree.Keyword.TheVariants as keyword
 use Rattle.own_tree.specs.declared.tree.BinaryOperator.TheVariants as operator
 use Rattle.own_tree.specs.Source.{Exp, number, text, path, consumed, binary, call, value, Args, no_args, arg, Stm, let_in, ignore, evaluate, Stms, no_stms, stm, block, field, deinitializer, Decl, struct_of, function, Fun, File}
 use Rattle.own_tool.specs.Form.{Text, span, till, Stands, run, past, Blanks, begins_with, begins_lower, Ends, SpellsNumber, path_of, is_end}
-use Rattle.own_tool.specs.Scoped.{IsScoped}
+use Rattle.own_meaning.specs.Scoped.{IsScoped}
 
 -- ---- names
 
