@@ -13,6 +13,8 @@ pub mod Statements
 pub mod SecondComplete
 pub mod SecondLoops
 pub mod SecondSound
+pub mod SecondSpread
+pub mod SecondStructs
 pub mod SecondTextComplete
 pub mod SecondTextSound
 pub mod Sums

@@ -13,12 +13,12 @@ use Rattle.own_tree.specs.declared.tree.Root.TheVariants as root
 use Rattle.own_tree.specs.declared.tree.BinaryOperator.{BinaryOperator}
 use Rattle.own_tree.specs.declared.tree.BinaryOperator.TheVariants as operator
 use Rattle.own_tree.specs.Source.{Exp, number, path, binary, call, value, Args, no_args, arg}
-use Rattle.own_tool.specs.declared.scope.Sort.{Sort}
-use Rattle.own_tool.specs.declared.scope.Sort.TheVariants as sort
-use Rattle.own_tool.specs.declared.scope.Binding.{Binding}
+use Rattle.own_meaning.specs.declared.scope.Sort.{Sort}
+use Rattle.own_meaning.specs.declared.scope.Sort.TheVariants as sort
+use Rattle.own_meaning.specs.declared.scope.Binding.{Binding}
 use Rattle.own_tool.specs.Form.{Text, skip, span, till, run, past, begins_lower, value_of, path_of}
 use Rattle.own_tool.specs.FormReading.{starts, number_at, begins_digit}
-use Rattle.own_tool.specs.Scoped.{type_in, sort_in, fields_sort, path_sort, IsAtom, atoms, IsShortSum, IsSum, sort_of, callee_sort, value_sort, IsValue}
+use Rattle.own_meaning.specs.Scoped.{type_in, sort_in, fields_sort, path_sort, IsAtom, atoms, IsShortSum, IsSum, callee_sort, value_sort, IsValue}
 use Rattle.own_tool.specs.SecondForm.{begins_upper, name_from, SpellsWord, SpellsFields, SpellsOperand, SpellsSum, SpellsValue}
 use Rattle.own_tool.specs.SecondFormReading.{word_at, is_int, path_on, operand_at, atom_at, more_on, sum_at, construction_at, plain_at, value_at}
 use Rattle.own_tool.proofs.FormFacts.{bind_some, some_is, guarded, stands_starts, stands_skip, stands_again, no_plus}
@@ -216,7 +216,7 @@ unfolding value_at
 path_value types scope p sort.Int t u sp is plus dot = sum_value types scope (path p) sort.Int t u sp (is, omega arith) refl plus
 path_value types scope p (sort.Struct k) t u sp is plus dot = rw (sum_no_upper (path p) t u sp) (struct_plain scope p k t u sp is dot)
 
-placed : (o : Option ℕ) (of : Sort) → sort_of o ≡ Some of → (k : ℕ) × (o ≡ Some k) × (sort.Struct k ≡ of)
+placed : (o : Option ℕ) (of : Sort) → elim o [ Some j ↦ Some (sort.Struct j) | None ↦ None ] ≡ Some of → (k : ℕ) × (o ≡ Some k) × (sort.Struct k ≡ of)
 placed (Some k) of e = (k, refl, some_is (sort.Struct k) of e)
 placed None of e = absurd cc
 

@@ -9,12 +9,12 @@ use Rattle.own_tree.specs.Source.{Exp, binary, Stm, Decl, struct_of}
 use Rattle.own_tree.specs.View.{stmt_view, stms_of, declaration_view}
 use Rattle.own_tool.specs.declared.form.unread.Unread.{Unread}
 use Rattle.own_tool.specs.declared.form.unread.Unread.TheVariants as unread
-use Rattle.own_tool.specs.declared.scope.Binding.{Binding}
+use Rattle.own_meaning.specs.declared.scope.Binding.{Binding}
 use Rattle.own_tool.specs.Form.{Text, skip, span, till, begins_with}
 use Rattle.own_tool.specs.FormReading.{Fails, starts}
-use Rattle.own_tool.specs.Scoped.{scope_after, types_after, all_types}
+use Rattle.own_meaning.specs.Scoped.{scope_after}
 use Rattle.own_tool.specs.SecondForm.{sum_tokens, statement_tokens, tokens_of}
-use Rattle.own_tool.specs.SecondFormReading.{atom_at, more_on, statement_at, statements_on, struct_on, structs_on}
+use Rattle.own_tool.specs.SecondFormReading.{atom_at, more_on, statement_at, statements_on, struct_on, structs_on, types_after, all_types}
 
 -- a place behind so many others
 abbrev pub behind : ℕ → Option ℕ → Option ℕ

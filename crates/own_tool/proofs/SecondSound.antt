@@ -7,12 +7,12 @@ use Rattle.own_tree.specs.declared.tree.Keyword.TheVariants as keyword
 use Rattle.own_tree.specs.declared.tree.Name.{Name}
 use Rattle.own_tree.specs.declared.tree.BinaryOperator.TheVariants as operator
 use Rattle.own_tree.specs.Source.{Exp, number, path, binary, call, value, no_args, arg, Stm, let_in}
-use Rattle.own_tool.specs.declared.scope.Sort.{Sort}
-use Rattle.own_tool.specs.declared.scope.Sort.TheVariants as sort
-use Rattle.own_tool.specs.declared.scope.Binding.{Binding}
+use Rattle.own_meaning.specs.declared.scope.Sort.{Sort}
+use Rattle.own_meaning.specs.declared.scope.Sort.TheVariants as sort
+use Rattle.own_meaning.specs.declared.scope.Binding.{Binding}
 use Rattle.own_tool.specs.Form.{Text, skip, span, till, run, past, begins_lower, SpellsNumber, value_of, is_number, path_of}
 use Rattle.own_tool.specs.FormReading.{◌>>=◌, starts, stands_at, number_at, begins_digit}
-use Rattle.own_tool.specs.Scoped.{type_in, sort_in, IsAtom, IsSum, atoms, IsShortSum, callee_sort, value_sort, IsValue, bound, scope_after}
+use Rattle.own_meaning.specs.Scoped.{type_in, sort_in, IsAtom, IsSum, atoms, IsShortSum, callee_sort, value_sort, IsValue, bound, scope_after}
 use Rattle.own_tool.specs.SecondForm.{begins_upper, name_from, SpellsWord, SpellsName, SpellsOperand, SpellsSum, SpellsValue, sum_tokens, value_tokens}
 use Rattle.own_tool.specs.SecondFormReading.{word_at, is_int, field_path, path_on, operand_at, atom_at, more_on, sum_at, construction_at, plain_at, value_at}
 use Rattle.own_tool.proofs.FormFacts.{bind_some, some_is, guarded, chosen, starts_stands, stands_sound}
@@ -159,7 +159,10 @@ plain_sound types scope t x e =
 
 -- the sort of a call of a type
 constructs : (types : List (List ℕ)) (name : Name) (k : ℕ) → type_in types name.text ≡ Some k → callee_sort types (path (path_of name)) ≡ Some (sort.Struct k)
-constructs types name k e = rw e refl
+constructs types name k e = named (type_in types name.text) e
+  where
+    named : (o : Option ℕ) → o ≡ Some k → elim o [ Some j ↦ Some (sort.Struct j) | None ↦ None ] ≡ Some (sort.Struct k)
+    named o q = rw q refl
 
 construction_sound : (types : List (List ℕ)) (scope : List Binding) (t : Text) (x : Exp × Sort × Text) → construction_at types scope t ≡ Some x → ValueRead types scope x t
 unfolding construction_at

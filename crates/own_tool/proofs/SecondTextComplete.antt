@@ -8,19 +8,20 @@ use Rattle.own_tree.specs.declared.tree.Name.{Name}
 use Rattle.own_tree.specs.declared.tree.Path.{Path}
 use Rattle.own_tree.specs.declared.tree.Keyword.{Keyword}
 use Rattle.own_tree.specs.declared.tree.Keyword.TheVariants as keyword
-use Rattle.own_tree.specs.Source.{Exp, path, consumed, call, value, Args, no_args, arg, Stm, let_in, ignore, evaluate, Stms, no_stms, stm, Decl, function, Fun, File}
-use Rattle.own_tool.specs.declared.scope.Sort.{Sort}
-use Rattle.own_tool.specs.declared.scope.Sort.TheVariants as sort
-use Rattle.own_tool.specs.declared.scope.Binding.{Binding}
+use Rattle.own_tree.specs.Source.{Exp, path, consumed, call, value, Args, no_args, arg, Stm, let_in, ignore, evaluate, Stms, no_stms, stm, Decl, File}
+use Rattle.own_meaning.specs.declared.scope.Sort.{Sort}
+use Rattle.own_meaning.specs.declared.scope.Sort.TheVariants as sort
+use Rattle.own_meaning.specs.declared.scope.Binding.{Binding}
 use Rattle.own_tool.specs.Form.{Text, skip, till, Stands, run, past, Blanks, begins_with, begins_lower, Ends, path_of, is_end}
 use Rattle.own_tool.specs.FormReading.{starts, stands_at}
-use Rattle.own_tool.specs.Scoped.{sort_in, path_sort, IsStatement, scope_after, AreStatements, statements, IsStruct, AreStructs, all_types, IsMain, IsScoped}
+use Rattle.own_meaning.specs.Scoped.{sort_in, path_sort, IsStatement, scope_after, AreStatements, statements, IsScoped}
 use Rattle.own_tool.specs.SecondForm.{begins_upper, name_from, SpellsStatement, SpellsStatements, SpellsPrint, header, footer, struct_tree, SpellsStruct, SpellsStructs, main_of, file_of, IsSecondForm}
-use Rattle.own_tool.specs.SecondFormReading.{word_at, let_on, print_on, is_struct, consume_on, statement_at, statements_on, struct_on, structs_on, main_on, form_at}
+use Rattle.own_tool.specs.SecondFormReading.{word_at, let_on, print_on, is_struct, consume_on, statement_at, statements_on, struct_on, structs_on, main_on, form_at, all_types}
 use Rattle.own_tool.proofs.FormFacts.{is_either, some_is, starts_stands, stands_starts, stands_skip, stands_again, ends_no_plus, no_plus, no_let, let_no_close, print_no_close}
 use Rattle.own_tool.proofs.FormSound.{list_of, stms_of-list_of}
 use Rattle.own_tool.proofs.FormComplete.{blanks_again, ends_again}
 use Rattle.own_tool.proofs.SecondLoops.{all_types-push}
+use Rattle.own_tool.proofs.SecondStructs.{IsStruct, AreStructs, word_is_short, declared_structs}
 use Rattle.own_tool.proofs.SecondComplete.{word_again, sum_again, value_again}
 
 -- ---- what does not stand at a place
@@ -142,7 +143,7 @@ struct_again types d from to sp is =
     let so : IsStruct types (struct_tree from.at name colon.at (run is_ascii_alphabetic first) sp.4.at) = subst (λ (x : Decl). IsStruct types x) sp.10 is in
     let named : word_at begins_upper (skip 7 from) ≡ Some (name, colon) = ap (word_at begins_upper) (stands_skip (codes "struct ") from start sp.5) ∙ word_again begins_upper name start colon sp.6 in
     let last : stands_at footer (past is_ascii_alphabetic first) ≡ Some to = ap (stands_at footer) (sym sp.8) ∙ stands_again footer sp.4 to sp.9 in
-    rw (named, so.1, stands_again header colon first sp.7, so.2.3.1.0, last)
+    rw (named, so.1, stands_again header colon first sp.7, word_is_short (run is_ascii_alphabetic first) so.2.3.1.0, last)
     (ap (λ (quote : Text). Some (struct_tree from.at name colon.at (run is_ascii_alphabetic first) quote.at, to)) (sym sp.8) ∙ ap (λ (x : Decl). Some (x, to)) (sym sp.10))
 
 structs_step : (n : ℕ) (found : List Decl) (from : Text) (d : Decl) (next : Text) → starts (codes "struct ") from ≡ true → struct_on (all_types [] found) from (skip 7 from) ≡ Some (d, next) → structs_on (suc n) found from ≡ structs_on n (found ++ d ∷ []) next
@@ -161,43 +162,6 @@ structs_again (d ∷ ds) (suc n) found from to sp is few none =
 
 -- ---- the text
 
-none_last : {A : Type 0} (ys : List A) (y : A) → [] ≡ ys ++ y ∷ [] → ⊥
-none_last [] y e = absurd cc
-none_last (b ∷ ys) y e = absurd cc
-
-last_same : {A : Type 0} (xs ys : List A) (x y : A) → xs ++ x ∷ [] ≡ ys ++ y ∷ [] → (xs ≡ ys) × (x ≡ y)
-last_same [] [] x y e = (refl, cc)
-last_same [] (b ∷ ys) x y e = let tail : [] ≡ ys ++ y ∷ [] = cc in absurd (none_last ys y tail)
-last_same (a ∷ xs) [] x y e = let tail : xs ++ x ∷ [] ≡ [] = cc in absurd (none_last xs x (sym tail))
-last_same (a ∷ xs) (b ∷ ys) x y e =
-    let head : a ≡ b = cc in
-    let tail : xs ++ x ∷ [] ≡ ys ++ y ∷ [] = cc in
-    let more = last_same xs ys x y tail in
-    (rw (head, more.0) refl, more.1)
-
-function_is : (f g : Fun) → function f ≡ function g → f ≡ g
-function_is f g e = cc
-
--- a tree of the form has the structs and the statements that are spelled
-record IsTree (structs : List Decl) (ss : Stms) : Type 0 where
-  are : AreStructs [] structs
-  few_structs : length structs ≤ 20
-  scoped : AreStatements (all_types [] structs) [] ss
-  few : statements ss ≤ 200
-
-tree_is : (structs : List Decl) (start : ℕ) (ss : Stms) (close : ℕ) → IsScoped (file_of structs start ss close) → IsTree structs ss
-tree_is structs start ss close is =
-    let all = main_of start ss close in
-    let parts = last_same structs is.0 (function all) (function is.1) is.2 in
-    let main : IsMain (all_types [] is.0) all = subst (λ (f : Fun). IsMain (all_types [] is.0) f) (sym (function_is all is.1 parts.1)) is.5 in
-    let body = subst (λ (ds : List Decl). IsMain (all_types [] ds) all) (sym parts.0) main in
-    record {
-      are = subst (λ (ds : List Decl). AreStructs [] ds) (sym parts.0) is.3;
-      few_structs = subst (λ (ds : List Decl). length ds ≤ 20) (sym parts.0) is.4;
-      scoped = body.3.0;
-      few = body.3.1;
-    }
-
 main_again : (structs : List Decl) (start body first : Text) (ss : Stms) (last end : Text) → Stands (codes "func main() {") start body → Blanks body first → SpellsStatements ss first last → Stands (codes "}\nmain()") last end → is_end end.rest ≡ true
     → AreStatements (all_types [] structs) [] ss → statements ss ≤ 200 → main_on structs start ≡ Some (file_of structs start.at ss last.at)
 unfolding main_on
@@ -212,9 +176,12 @@ pub form_again : (bytes : List ℕ) (file : File) → IsSecondForm bytes file �
 form_again bytes file h =
     let sp = h.0 in
     let structs = sp.0 in let start = sp.1 in let ss = sp.4 in let last = sp.5 in
-    let tree = tree_is structs start.at ss last.at (subst (λ (f : File). IsScoped f) sp.13 h.1) in
-    let read_structs = structs_again structs 20 [] (record { at = 0; rest = bytes }) start sp.7 tree.are tree.few_structs (main_no_struct start sp.2 sp.8) in
-    let read_main = main_again structs start sp.2 sp.3 ss last sp.6 sp.8 sp.9 sp.10 sp.11 sp.12 tree.scoped tree.few in
+    let tree = declared_structs [] structs (main_of start.at ss last.at) (subst (λ (f : File). IsScoped f) sp.13 h.1) in
+    let body = tree.main.3 in
+    let counted = tree.counted in
+    let few : length structs ≤ 20 = omega arith in
+    let read_structs = structs_again structs 20 [] (record { at = 0; rest = bytes }) start sp.7 tree.are few (main_no_struct start sp.2 sp.8) in
+    let read_main = main_again structs start sp.2 sp.3 ss last sp.6 sp.8 sp.9 sp.10 sp.11 sp.12 body.0 body.1 in
     text_again bytes structs start file read_structs (read_main ∙ ap (λ (f : File). Some f) (sym sp.13))
 
 -- ---- what the answer of reading says of the trees of a text

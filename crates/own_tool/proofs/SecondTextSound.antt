@@ -1,22 +1,23 @@
 -- The statements, the structs and the text that are read are spelled so, and their names and values are of their sorts.
-use Rattle.std.proofs.Common.{◌≡◌, ℕ, zero, suc, ◌≤◌, Bool, true, false, cond, List, [], ◌∷◌, ◌++◌, length, Option, Some, None, inl, inr, refl, sym, ap, subst, ◌∙◌, append_assoc, arith}
+use Rattle.std.proofs.Common.{◌≡◌, ◌+◌, ℕ, zero, suc, ◌≤◌, Bool, true, false, cond, List, [], ◌∷◌, ◌++◌, length, Option, Some, None, inl, inr, refl, sym, ap, subst, ◌∙◌, append_assoc, arith}
 use Rattle.std.specs.Prelude.{codes}
 use Rattle.std.specs.Char.{is_ascii_alphabetic}
 use Rattle.std.proofs.lemmas.List.{append-nil}
 use Rattle.own_tree.specs.declared.tree.Keyword.TheVariants as keyword
 use Rattle.own_tree.specs.Source.{path, consumed, call, value, no_args, arg, Stm, let_in, ignore, evaluate, Stms, no_stms, stm, Decl, File}
 use Rattle.own_tree.specs.View.{stms_of}
-use Rattle.own_tool.specs.declared.scope.Sort.{Sort}
-use Rattle.own_tool.specs.declared.scope.Sort.TheVariants as sort
-use Rattle.own_tool.specs.declared.scope.Binding.{Binding}
+use Rattle.own_meaning.specs.declared.scope.Sort.{Sort}
+use Rattle.own_meaning.specs.declared.scope.Sort.TheVariants as sort
+use Rattle.own_meaning.specs.declared.scope.Binding.{Binding}
 use Rattle.own_tool.specs.Form.{Text, skip, till, Stands, run, past, Blanks, begins_with, begins_lower, Ends, path_of, is_end}
 use Rattle.own_tool.specs.FormReading.{◌>>=◌, starts, stands_at, blanks_at, ends_at}
-use Rattle.own_tool.specs.Scoped.{sort_in, is_fresh, is_fresh_type, is_short, IsStatement, scope_after, AreStatements, statements, IsStruct, AreStructs, all_types, IsScoped}
-use Rattle.own_tool.specs.SecondForm.{begins_upper, name_from, SpellsStatement, SpellsStatements, header, footer, struct_tree, SpellsStruct, SpellsStructs, file_of, IsSpelled, IsSecondForm}
-use Rattle.own_tool.specs.SecondFormReading.{word_at, sum_at, value_at, let_on, print_on, is_struct, consume_on, statement_at, statements_on, struct_on, structs_on, main_on, form_at}
+use Rattle.own_meaning.specs.Scoped.{sort_in, is_fresh, is_fresh_type, IsStatement, scope_after, AreStatements, statements, IsScoped}
+use Rattle.own_tool.specs.SecondForm.{begins_upper, name_from, SpellsStatement, SpellsStatements, header, footer, struct_tree, SpellsStruct, SpellsStructs, main_of, file_of, IsSpelled, IsSecondForm}
+use Rattle.own_tool.specs.SecondFormReading.{word_at, sum_at, value_at, let_on, print_on, is_struct, consume_on, statement_at, statements_on, struct_on, structs_on, main_on, form_at, is_short, all_types}
 use Rattle.own_tool.proofs.FormFacts.{bind_some, some_is, guarded, chosen, starts_stands, stands_sound}
 use Rattle.own_tool.proofs.FormSound.{blanks_sound, ends_sound, list_of, stms_of-list_of}
 use Rattle.own_tool.proofs.SecondLoops.{all_types-push}
+use Rattle.own_tool.proofs.SecondStructs.{IsStruct, AreStructs, is_word_run, structs_declared}
 use Rattle.own_tool.proofs.SecondSound.{word_sound, sum_sound, value_sound}
 
 -- ---- statements
@@ -148,7 +149,7 @@ struct_sound types t x kw e =
     let made : Decl × Text = (struct_tree t.at a.0.0 a.0.1.at word quote.at, d.0) in
     subst (λ (y : Decl × Text). SpellsStruct y.0 t y.1 × IsStruct types y.0) (some_is made x d.2) (
       (skip 7 t, a.0.0, a.0.1, b.0, quote, starts_stands (codes "struct ") t kw, word_sound begins_upper (skip 7 t) a.0 a.1, stands_sound header a.0.1 b.0 g.1, refl, stands_sound footer quote d.0 short.1, refl),
-      (refl, g.0, (refl, refl, refl, (refl, (short.0, refl)))),
+      (refl, g.0, (refl, refl, refl, (refl, (is_word_run b.0 short.0, refl)))),
     )
 
 -- the structs that were read behind `found`
@@ -231,9 +232,11 @@ main_sound structs from file e =
 
 text_sound : (bytes : List ℕ) (structs : List Decl) (start : Text) (file : File) → StructsRead 20 [] (record { at = 0; rest = bytes }) (structs, start) → main_on structs start ≡ Some file → IsSecondForm bytes file
 text_sound bytes structs start file read_ e =
+    let few_read = read_.few in
+    let few : 0 + length read_.ds ≤ 20 = omega arith in
     let main = main_sound read_.ds start file (subst (λ (ds : List Decl). main_on ds start ≡ Some file) read_.all e) in
     let spelled : IsSpelled bytes file = (read_.ds, start, main.body, main.first, main.ss, main.last, main.end, read_.spelled, main.opens, main.blank, main.spelled, main.closes, main.ends, main.file_is) in
-    let scoped : IsScoped (file_of read_.ds start.at main.ss main.last.at) = (read_.ds, _, refl, read_.scoped, read_.few, (refl, refl, refl, (main.scoped, main.few))) in
+    let scoped : IsScoped (file_of read_.ds start.at main.ss main.last.at) = structs_declared [] read_.ds (main_of start.at main.ss main.last.at) read_.scoped few (refl, refl, refl, (main.scoped, main.few)) in
     (spelled, subst (λ (f : File). IsScoped f) (sym main.file_is) scoped)
 
 pub form_sound : (bytes : List ℕ) (file : File) → form_at bytes ≡ Some file → IsSecondForm bytes file

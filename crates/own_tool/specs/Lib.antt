@@ -1,4 +1,3 @@
-pub mod Scoped
 pub mod Form
 pub mod FormReading
 pub mod SecondForm

@@ -1,19 +1,19 @@
 -- Reading the second form from left to right: each function gives what stands at a position and the position after it.
-use Rattle.std.specs.Prelude.{ℕ, zero, suc, ◌+◌, Bool, true, false, if◌then◌else◌, List, [], ◌∷◌, ◌++◌, Option, Some, None, codes}
+use Rattle.std.specs.Prelude.{ℕ, length, nat_le, ◌&&◌, zero, suc, ◌+◌, Bool, true, false, if◌then◌else◌, List, [], ◌∷◌, ◌++◌, Option, Some, None, codes}
 use Rattle.std.specs.Char.{is_ascii_alphabetic, is_ascii_alphanumeric}
 use Rattle.own_tree.specs.declared.tree.Name.{Name}
 use Rattle.own_tree.specs.declared.tree.Path.{Path}
 use Rattle.own_tree.specs.declared.tree.Root.TheVariants as root
 use Rattle.own_tree.specs.declared.tree.Keyword.TheVariants as keyword
 use Rattle.own_tree.specs.declared.tree.BinaryOperator.TheVariants as operator
-use Rattle.own_tree.specs.Source.{Exp, path, consumed, binary, call, value, no_args, arg, Stm, let_in, ignore, evaluate, Decl, File}
+use Rattle.own_tree.specs.Source.{Exp, path, consumed, binary, call, value, no_args, arg, Stm, let_in, ignore, evaluate, Decl, struct_of, File}
 use Rattle.own_tree.specs.View.{stms_of}
-use Rattle.own_tool.specs.declared.scope.Sort.{Sort}
-use Rattle.own_tool.specs.declared.scope.Sort.TheVariants as sort
-use Rattle.own_tool.specs.declared.scope.Binding.{Binding}
+use Rattle.own_meaning.specs.declared.scope.Sort.{Sort}
+use Rattle.own_meaning.specs.declared.scope.Sort.TheVariants as sort
+use Rattle.own_meaning.specs.declared.scope.Binding.{Binding}
 use Rattle.own_tool.specs.Form.{Text, skip, span, till, run, past, begins_with, begins_lower, path_of, is_end}
 use Rattle.own_tool.specs.FormReading.{◌>>=◌, starts, stands_at, blanks_at, ends_at, number_at, begins_digit}
-use Rattle.own_tool.specs.Scoped.{type_in, sort_in, is_fresh, is_fresh_type, is_short, scope_after, all_types}
+use Rattle.own_meaning.specs.Scoped.{type_in, sort_in, is_fresh, is_fresh_type, scope_after}
 use Rattle.own_tool.specs.SecondForm.{begins_upper, name_from, header, footer, struct_tree, file_of}
 
 unfoldable pub word_at : (List ℕ → Bool) → Text → Option (Name × Text)
@@ -128,6 +128,19 @@ statements_on types (suc n) found scope t =
     else (statement_at types scope t >>= λ s. statements_on types n (found ++ s.0 ∷ []) (scope_after types scope s.0) s.1)
 
 -- ---- structs and the text
+
+-- the names of the types after one declaration, and after some
+abbrev pub types_after : List (List ℕ) → Decl → List (List ℕ)
+types_after types (struct_of s name noncopyable members) = types ++ name.text ∷ []
+types_after types d = types
+
+abbrev pub all_types : List (List ℕ) → List Decl → List (List ℕ)
+all_types types [] = types
+all_types types (d ∷ ds) = all_types (types_after types d) ds
+
+-- 1 to 40 bytes
+abbrev pub is_short : List ℕ → Bool
+is_short word = nat_le 1 (length word) && nat_le (length word) 40
 
 -- behind the `struct ` that began at `start`
 unfoldable pub struct_on : List (List ℕ) → Text → Text → Option (Decl × Text)

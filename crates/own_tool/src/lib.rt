@@ -4,7 +4,6 @@
 mod form;
 mod judged;
 mod lower;
-mod scope;
 mod second_form;
 mod texts;
 mod tool;

@@ -6,7 +6,6 @@ ghost use Rattle.std.specs.Prelude.{◌≡◌, ◌+◌, ◌*◌, ◌≤◌, ◌<
 ghost use Rattle.std.specs.List.{starts_with};
 ghost use Rattle.own_tree.specs.Source.{File};
 ghost use Rattle.own_tree.specs.View.{stmt_view, stms_of, declaration_view, tree_view};
-ghost use Rattle.own_tool.specs.Scoped as scoped;
 ghost use Rattle.own_tool.specs.SecondForm as spec;
 ghost use Rattle.own_tool.specs.SecondForm.{IsSecondForm};
 ghost use Rattle.own_tool.specs.FormReading.{text_view, Gives};
@@ -22,7 +21,7 @@ mod value;
 use crate::form::look::{begins_close, is_end, past_blanks, past_word, skip, start_of};
 use crate::form::position::Position;
 use crate::form::unread::Unread;
-use crate::scope::Binding;
+use own_meaning::Binding;
 use names::name_from;
 use own_tree::limits::MOST_TEXT_BYTES;
 use own_tree::tree::{Block, Declaration, FunctionDeclaration, Stmt, Tree};
@@ -50,7 +49,7 @@ fn structs_of<'a>(
     from: Position<'a>,
 ) -> Result<(Row<Declaration>, Row<Bytes>, Position<'a>), Unread>
     ensures gives { Gives (λ x. (map declaration_view x.0, text_view x.2)) result (reading.structs_on 20 [] (text_view from.entry)) }
-    ensures named { IfOk result (λ x. x.1 ≡ scoped.all_types [] (map declaration_view x.0)) }
+    ensures named { IfOk result (λ x. x.1 ≡ reading.all_types [] (map declaration_view x.0)) }
     ensures few { IfOk result (λ x. (length x.0 ≤ 20) × (length x.1 ≤ 20)) }
 {
     let mut found = Row::new(alloc);
@@ -146,7 +145,7 @@ fn main_of(
     types: &[Bytes],
     from: Position<'_>,
 ) -> Result<Tree, Unread>
-    requires named { types.now ≡ scoped.all_types [] (map declaration_view structs) }
+    requires named { types.now ≡ reading.all_types [] (map declaration_view structs) }
     requires few { (length structs ≤ 20) × (length types.now ≤ 20) }
     ensures { Gives tree_view result (reading.main_on (map declaration_view structs) (text_view from.entry)) }
 {
@@ -182,3 +181,6 @@ pub(crate) fn read_form(alloc: Global, text: &[u8]) -> Result<Option<Tree>, Allo
         Err(Unread::Memory) => Err(AllocError),
     }
 }
+
+#[cfg(test)]
+mod tests;

@@ -2,7 +2,7 @@
 
 ghost use Rattle.std.specs.Prelude.{◌≡◌, ◌+◌, ◌≤◌, ◌<◌, ◌^◌, IfOk, length, map};
 ghost use Rattle.own_tool.specs.Form as form;
-ghost use Rattle.own_tool.specs.Scoped as scoped;
+ghost use Rattle.own_meaning.specs.Scoped as scoped;
 ghost use Rattle.own_tool.specs.SecondForm as spec;
 ghost use Rattle.own_tool.specs.SecondFormReading as reading;
 ghost use Rattle.own_tool.specs.FormReading.{text_view, Gives};
@@ -11,7 +11,7 @@ use crate::form::look::{Kind, run, till};
 use crate::form::position::Position;
 use crate::form::unread::Unread;
 use crate::form::words::{RESERVED, begins_lower, is_in_scope, is_listed};
-use crate::scope::{Binding, Sort};
+use own_meaning::{Binding, Sort};
 use own_tree::tree::Name;
 use own_tree::{Bytes, Span};
 use std::alloc::{AllocError, Global};
@@ -50,14 +50,14 @@ pub(crate) fn type_of(types: &[Bytes], word: &[u8]) -> Option<u32>
     None
 }
 
-#[tactic(auto, unfolding(crate::specs::Scoped::reserved))]
+#[tactic(auto, unfolding(own_meaning::specs::Scoped::reserved))]
 fn is_reserved(word: &[u8]) -> bool
     ensures { result ≡ scoped.is_among word.now scoped.reserved }
 {
     is_listed(&RESERVED, word)
 }
 
-#[tactic(auto, unfolding(crate::specs::Scoped::reserved_types))]
+#[tactic(auto, unfolding(own_meaning::specs::Scoped::reserved_types))]
 fn is_reserved_type(word: &[u8]) -> bool
     ensures { result ≡ scoped.is_among word.now scoped.reserved_types }
 {

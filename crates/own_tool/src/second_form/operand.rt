@@ -3,7 +3,7 @@
 ghost use Rattle.std.specs.Prelude.{◌≡◌, ◌+◌, ◌≤◌, IfOk, codes, nat_eq, true, length};
 ghost use Rattle.std.specs.List.{starts_with};
 ghost use Rattle.own_tree.specs.View.{expr_view};
-ghost use Rattle.own_tool.specs.Scoped as scoped;
+ghost use Rattle.own_meaning.specs.Scoped as scoped;
 ghost use Rattle.own_tool.specs.SecondForm as spec;
 ghost use Rattle.own_tool.specs.FormReading as form_reading;
 ghost use Rattle.own_tool.specs.FormReading.{text_view, Gives};
@@ -13,7 +13,7 @@ use crate::form::look::{Kind, begins_digit, run, skip, till};
 use crate::form::position::Position;
 use crate::form::unread::Unread;
 use crate::form::words::{MOST_DIGITS, path_of, value_of};
-use crate::scope::{Binding, Sort};
+use own_meaning::{Binding, Sort};
 use crate::second_form::names::{name_from, name_of, sort_of};
 use own_tree::Row;
 use own_tree::tree::{Expr, Name, Path, Root};

@@ -5,7 +5,6 @@ ghost use Rattle.std.specs.List.{starts_with};
 ghost use Rattle.own_tree.specs.View.{expr_view, argument_view, stmt_view, deinitializer_view, declaration_view};
 ghost use Rattle.own_tree.specs.Source.{path, text, value, deinitializer, block, stm, no_stms};
 ghost use Rattle.own_tool.specs.Form as form;
-ghost use Rattle.own_tool.specs.Scoped as scoped;
 ghost use Rattle.own_tool.specs.SecondForm as spec;
 ghost use Rattle.own_tool.specs.FormReading.{text_view, Gives};
 ghost use Rattle.own_tool.specs.SecondFormReading as reading;
@@ -158,7 +157,7 @@ pub(crate) fn struct_of<'a>(
     from: Position<'a>,
 ) -> Result<(Declaration, Position<'a>), Unread>
     ensures gives { Gives (λ x. (declaration_view x.0, text_view x.1)) result (reading.struct_on types.old (text_view start.entry) (text_view from.entry)) }
-    ensures types { IfOk result (λ x. types.new ≡ scoped.types_after types.old (declaration_view x.0)) }
+    ensures types { IfOk result (λ x. types.new ≡ reading.types_after types.old (declaration_view x.0)) }
 {
     let (name, colon) = type_name_of(alloc, from)?;
     if !is_fresh_type(types.as_slice(), name.text.as_slice()) {

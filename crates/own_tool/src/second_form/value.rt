@@ -12,7 +12,7 @@ use crate::form::look::{past_word, till};
 use crate::form::position::Position;
 use crate::form::unread::Unread;
 use crate::form::words::path_of;
-use crate::scope::{Binding, Sort};
+use own_meaning::{Binding, Sort};
 use crate::second_form::names::{begins_upper, name_from, type_name_of, type_of};
 use crate::second_form::operand::{Value, operand_of};
 use crate::second_form::sum::{Sum, more_of, sum_of};

@@ -1,5 +1,5 @@
 use Rattle.std.proofs.Common.{◌≡◌, length}
-use Rattle.own_tool.specs.Scoped.{sort_in}
+use Rattle.own_meaning.specs.Scoped.{sort_in}
 use Rattle.own_tool.proofs.second_form.names.sort_of.Given as goal
 
 abbrev pub invariant-left : goal.invariant-left

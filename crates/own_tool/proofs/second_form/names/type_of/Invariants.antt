@@ -1,5 +1,5 @@
 use Rattle.std.proofs.Common.{◌≡◌, ◌+◌, length}
-use Rattle.own_tool.specs.Scoped.{type_in}
+use Rattle.own_meaning.specs.Scoped.{type_in}
 use Rattle.own_tool.proofs.SecondLoops.{behind}
 use Rattle.own_tool.proofs.second_form.names.type_of.Given as goal
 
