@@ -19,4 +19,3 @@ pub mod SecondTextComplete
 pub mod SecondTextSound
 pub mod Sums
 pub mod Whole
-pub mod Spread

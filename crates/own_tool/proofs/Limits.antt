@@ -1,5 +1,5 @@
 -- The module of a text of the second form is within the limits that the machine relies on.
-use Rattle.std.proofs.Common.{◌≡◌, ℕ, zero, suc, ◌+◌, ◌≤◌, max, Option, List, [], ◌∷◌, ◌++◌, length, Some, None, refl, ap, sym, ◌∙◌, subst, arith}
+use Rattle.std.proofs.Common.{◌≡◌, ℕ, zero, suc, ◌+◌, ◌≤◌, max, Option, List, [], ◌∷◌, ◌++◌, length, Some, None, refl, ap, sym, ◌∙◌, subst, length-append, arith}
 use Rattle.std.specs.Prelude.{slice_get}
 use Rattle.wasm_form.specs.declared.instr.Instr.{Instr, out-Instr, fold-Instr, fold_out-Instr}
 use Rattle.wasm_form.specs.declared.instr.Instr.TheFolds.{map-Instr}
@@ -15,7 +15,7 @@ use Rattle.wasm_form.proofs.Outs.{out_unreachable, out_i64_const, out_i32_const,
 use Rattle.own_tree.specs.Source.{Exp, number, path, consumed, binary, call, value, Args, no_args, arg, Stm, let_in, ignore, evaluate, Stms, no_stms, stm, Blk, block, Decl, struct_of, function, File}
 use Rattle.own_meaning.specs.Scoped.{IsScoped, AreDeclared, IsBody, statements}
 use Rattle.own_tool.specs.declared.lower.Local.{Local}
-use Rattle.own_tool.specs.Lower.{add_code, sum_code, argument_code, value_code, line_code, print_code, bytes_code, word_of, farewell_code, end_code, ends_code, ignore_code, statement_code, statements_code, locals_after, all_locals, module_with, lowered_body, lowered_in, lowered}
+use Rattle.own_tool.specs.Lower.{add_code, sum_code, argument_code, value_code, line_code, print_code, bytes_code, word_of, farewell_code, end_code, ends_code, ignore_code, statement_code, statements_code, locals_after, all_locals, module_with, lowered_body, lowered_in, lowered, IsShortBody, AreShortBodies}
 use Rattle.own_tool.proofs.Whole.{locals_counted, lets_few}
 
 -- ---- how deep labels nest in an instruction, from the lists in it
@@ -183,3 +183,21 @@ declarations_within all types ds h = absurd h
 pub lowered_within : (file : File) → IsScoped file → IsWithin (lowered file)
 unfolding lowered
 lowered_within file h = declarations_within file.declarations [] file.declarations h
+
+-- ---- how much there is to lower
+
+few_declared : (types : List (List ℕ)) (ds : List Decl) → AreDeclared types ds → length types + length ds ≤ 21
+few_declared types (struct_of s name noncopyable members ∷ ds) h = omega (arith, few_declared (types ++ name.text ∷ []) ds h.3, length-append types (name.text ∷ []))
+few_declared types (function main ∷ []) h = omega (arith, h.0)
+few_declared types ds h = absurd h
+
+body_short : (types : List (List ℕ)) (b : Blk) → IsBody types b → IsShortBody b
+body_short types (block s ss) h = h.1
+
+bodies_short : (types : List (List ℕ)) (ds : List Decl) → AreDeclared types ds → AreShortBodies ds
+bodies_short types (struct_of s name noncopyable members ∷ ds) h = bodies_short (types ++ name.text ∷ []) ds h.3
+bodies_short types (function main ∷ []) h = body_short types main.body h.1.3
+bodies_short types ds h = absurd h
+
+pub is_lowered : (file : File) → IsScoped file → AreShortBodies file.declarations × (length file.declarations ≤ 21)
+is_lowered file h = (bodies_short [] file.declarations h, omega (arith, few_declared [] file.declarations h))

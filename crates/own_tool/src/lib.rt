@@ -1,6 +1,7 @@
 //! The top call of the program.
 #![tactic(auto)]
 
+mod findings;
 mod form;
 mod judged;
 mod lower;

@@ -2,23 +2,25 @@
 
 ghost use Rattle.std.specs.Prelude.{◌≡◌, ◌≢◌, ℕ, ◌≤◌, ◌<◌, ◌⊎◌, List, [], length, map, string_bytes, Some, None, IfOk, OnErr, Ok, Err};
 ghost use Rattle.own_io.specs.Outside.{told_after, HasRisen};
-ghost use Rattle.own_tool.specs.Judged.{answer_of, answer_of_ending, line_of, line_of_ending, ending_of, IsShort, TextEndsAs, FileIsJudged};
+ghost use Rattle.own_tool.specs.Judged.{answer_of, answer_of_ending, line_of, line_of_ending, ending_of, IsShort, TextEndsAs, TextComesTo, FileIsJudged};
 ghost use Rattle.own_tool.specs.Words.{file_to_run};
 ghost use Rattle.own_tool.specs.Headline.{Answers};
 ghost use Rattle.own_tool.specs.Saying.{Said, IsConcluded};
-ghost use Rattle.own_tool.specs.Form.{IsFirstForm};
+ghost use Rattle.own_tool.specs.SecondForm.{IsSecondForm};
 ghost use Rattle.own_tree.specs.View.{tree_view};
+ghost use Rattle.own_meaning.specs.Findings.{IsSound};
 ghost use Rattle.wasm_form.specs.Within.{IsWithin};
 ghost use Rattle.wasm_form.specs.Steps.{machine_run};
 ghost use Rattle.wasm_run.specs.Runs.{RanAs};
 
-use crate::form::read_form;
+use crate::findings::{finding_lines, findings};
 use crate::judged::{Ending, Judged};
 use crate::lower::lower;
+use crate::second_form::read_form;
 use crate::texts::{not_built_line, read_line, steps_line, too_long_line, trap_line};
 use crate::words::file_to_run;
 use own_io::{Folder, LoadError, Sink, send};
-use own_tree::Status;
+use own_tree::{Bytes, Status};
 use own_tree::limits::MOST_TEXT_BYTES;
 use own_tree::tree::Tree;
 use std::alloc::{AllocError, Global};
@@ -52,6 +54,7 @@ fn answer_of(judged: &Judged) -> Status
     match judged {
         Judged::ReadFault => Status::ReadFault,
         Judged::TooLong => Status::Refused,
+        Judged::Found(_) => Status::Refused,
         Judged::Ran(_, ending) => answer_of_ending(*ending),
     }
 }
@@ -85,6 +88,7 @@ fn line_of(alloc: Global, file: &str, judged: &Judged) -> Result<String, AllocEr
     match judged {
         Judged::ReadFault => read_line(alloc, file),
         Judged::TooLong => too_long_line(alloc, file),
+        Judged::Found(lines) => String::from_str(alloc, lines.as_str()),
         Judged::Ran(text, ending) => line_of_ending(alloc, file, text.as_slice(), *ending),
     }
 }
@@ -112,14 +116,14 @@ fn run_module<K: Sink>(alloc: Global, code: &Module, out: &mut K) -> Result<Ran,
     Ok(machine.run(DEFAULT_STEPS, out))
 }
 
-/// Runs the tree of a text.
+/// Runs the tree of a text that breaks no rule.
 fn run_tree<K: Sink>(
     alloc: Global,
     text: &[u8],
     tree: &Tree,
     out: &mut K,
 ) -> Result<Ending, AllocError>
-    requires { IsFirstForm text.now (tree_view tree.now) }
+    requires { IsSecondForm text.now (tree_view tree.now) × IsSound (tree_view tree.now) }
     ensures count { K.faults out.old ≤ K.faults out.new }
     ensures ran { TextEndsAs text.now result (K.written out.old) (K.written out.new) (HasRisen (K.faults out.old) (K.faults out.new)) }
 {
@@ -128,15 +132,43 @@ fn run_tree<K: Sink>(
     Ok(ending_of(ran))
 }
 
-/// Runs a text, if it is in the form that is built.
-fn run_text<K: Sink>(alloc: Global, text: &[u8], out: &mut K) -> Result<Ending, AllocError>
-    requires { length text.now ≤ 1048576 }
+/// Says what rules the tree of a text breaks, or runs it.
+fn judge_tree<K: Sink>(
+    alloc: Global,
+    file: &str,
+    text: Bytes,
+    tree: &Tree,
+    out: &mut K,
+) -> Result<Judged, AllocError>
+    requires { IsSecondForm text (tree_view tree.now) × (length text ≤ 1048576) }
     ensures count { K.faults out.old ≤ K.faults out.new }
-    ensures ran { TextEndsAs text.now result (K.written out.old) (K.written out.new) (HasRisen (K.faults out.old) (K.faults out.new)) }
+    ensures short { IfOk result IsShort }
+    ensures judged { TextComesTo file.now text result (K.written out.old) (K.written out.new) (HasRisen (K.faults out.old) (K.faults out.new)) }
 {
-    match read_form(alloc, text)? {
-        Some(tree) => run_tree(alloc, text, &tree, out),
-        None => Ok(Ending::NotBuilt),
+    let found = findings(alloc, tree)?;
+    if found.is_empty() {
+        let ending = run_tree(alloc, text.as_slice(), tree, out)?;
+        Ok(Judged::Ran(text, ending))
+    } else {
+        Ok(Judged::Found(finding_lines(alloc, file, text.as_slice(), tree, found.as_slice())?))
+    }
+}
+
+/// Says what a text comes to: it is in no form that is built, it breaks rules, or it runs.
+fn judge_text<K: Sink>(
+    alloc: Global,
+    file: &str,
+    text: Bytes,
+    out: &mut K,
+) -> Result<Judged, AllocError>
+    requires { length text ≤ 1048576 }
+    ensures count { K.faults out.old ≤ K.faults out.new }
+    ensures short { IfOk result IsShort }
+    ensures judged { TextComesTo file.now text result (K.written out.old) (K.written out.new) (HasRisen (K.faults out.old) (K.faults out.new)) }
+{
+    match read_form(alloc, text.as_slice())? {
+        Some(tree) => judge_tree(alloc, file, text, &tree, out),
+        None => Ok(Judged::Ran(text, Ending::NotBuilt)),
     }
 }
 
@@ -166,10 +198,7 @@ fn judge<F: Folder, K: Sink>(
         file.now result (K.written out.old) (K.written out.new) (HasRisen (K.faults out.old) (K.faults out.new)) }
 {
     match folder.load(file, MOST_TEXT_BYTES) {
-        Ok(text) => {
-            let ending = run_text(alloc, text.as_slice(), out)?;
-            Ok(Judged::Ran(text, ending))
-        }
+        Ok(text) => judge_text(alloc, file, text, out),
         Err(LoadError::Failed) => Ok(Judged::ReadFault),
         Err(LoadError::TooLong { .. }) => Ok(Judged::TooLong),
         Err(LoadError::Memory) => Err(AllocError),
