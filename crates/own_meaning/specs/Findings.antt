@@ -11,6 +11,7 @@ use Rattle.own_tree.specs.declared.place.Place.{Place}
 use Rattle.own_tree.specs.declared.span.Span.{Span}
 use Rattle.own_tree.specs.OpSource.{Ops, nothing}
 use Rattle.own_tree.specs.Source.{Stms, Blk, block, Decl, struct_of, function, File}
+use Rattle.own_meaning.specs.declared.scope.Binding.{Binding}
 use Rattle.own_meaning.specs.Places.{whole, covers, overlaps, is_strictly_above, PlaceBefore}
 use Rattle.own_meaning.specs.Traces.{Completion, IsTrace}
 use Rattle.own_meaning.specs.Uses.{body_ops, names_at_end, numbered}
@@ -161,6 +162,18 @@ abbrev pub main_uses : List (List ℕ) → List Decl → Uses
 main_uses types (struct_of s name noncopyable members ∷ ds) = main_uses types ds
 main_uses types (function main ∷ ds) = block_uses types main.body
 main_uses types ds = record { tree = nothing; leaves = [] }
+
+-- the names of `main`, in order of declaration
+abbrev pub block_names : List (List ℕ) → Blk → List Binding
+block_names types (block s ss) = names_at_end types [] ss
+
+abbrev pub main_names : List (List ℕ) → List Decl → List Binding
+main_names types (struct_of s name noncopyable members ∷ ds) = main_names types ds
+main_names types (function main ∷ ds) = block_names types main.body
+main_names types ds = []
+
+abbrev pub names_of : File → List Binding
+names_of file = main_names (types_of file.declarations) file.declarations
 
 -- A `deinit` of this form reads its own `self` alone, which has a value all the while: the findings of a text are
 -- those of `main`.

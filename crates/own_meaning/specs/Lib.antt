@@ -6,3 +6,4 @@ pub mod Findings
 pub mod Run
 pub mod Once
 pub mod Marks
+pub mod Laws

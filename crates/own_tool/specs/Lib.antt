@@ -10,4 +10,3 @@ pub mod Headline
 pub mod Saying
 pub mod Judged
 pub mod MainSize
-pub mod FindingTexts

@@ -8,7 +8,7 @@ ghost use Rattle.own_meaning.specs.Marks as marks_of;
 ghost use Rattle.own_meaning.specs.Marks.{findings_of};
 ghost use Rattle.own_tree.specs.Source as source;
 ghost use Rattle.own_meaning.specs.Uses as uses;
-ghost use Rattle.own_tool.specs.FindingTexts as texts;
+ghost use Rattle.own_meaning.specs.Scoped.{IsScoped};
 ghost use Rattle.own_tool.specs.MainSize.{block_statements, main_statements};
 
 mod lines;
@@ -26,29 +26,34 @@ use std::alloc::{AllocError, Global};
 /// The findings of a `main`, and its names in order of declaration.
 #[derive(Drop)]
 pub(crate) struct Found {
-    pub findings: Vec<Finding>,
+    pub findings: Row<Finding>,
     pub names: Row<Binding>,
 }
 
 /// The findings of the statements of `main`.
-fn findings_in(
-    alloc: Global,
-    types: &[Bytes],
-    statements: &[Stmt],
-) -> Result<Found, AllocError>
+fn findings_in(alloc: Global, types: &[Bytes], statements: &[Stmt]) -> Result<Found, AllocError>
     requires few { (length types.now < 2 ^ 32) × (length statements.now ≤ 200) }
-    ensures findings { IfOk result (λ found. found.findings.items ≡ marks_of.findings_from types.now [] [] (stms_of (map stmt_view statements.now))) }
+    ensures findings { IfOk result (λ found. found.findings ≡ marks_of.findings_from types.now [] [] (stms_of (map stmt_view statements.now))) }
     ensures names { IfOk result (λ found. found.names ≡ uses.names_at_end types.now [] (stms_of (map stmt_view statements.now))) }
 {
     let mut names: Row<Binding> = Row::new(alloc);
     let mut marks: Vec<Mark> = Vec::new(alloc);
     let mut findings = Vec::new(alloc);
     for statement in statements {
-        push_statement(alloc, names.as_slice(), marks.as_slice(), statement, &mut findings)?;
+        push_statement(
+            alloc,
+            names.as_slice(),
+            marks.as_slice(),
+            statement,
+            &mut findings,
+        )?;
         mark_statement(alloc, names.as_slice(), &mut marks, statement)?;
         enter(alloc, types, &mut names, statement)?;
     }
-    Ok(Found { findings, names })
+    Ok(Found {
+        findings: Row::from_vec(findings),
+        names,
+    })
 }
 
 /// The names of the structs at the head of a text.
@@ -78,23 +83,19 @@ fn statements_of(block: &Block) -> &[Stmt]
 }
 
 /// The findings of a `main`.
-fn findings_of_block(
-    alloc: Global,
-    types: &[Bytes],
-    block: &Block,
-) -> Result<Found, AllocError>
+fn findings_of_block(alloc: Global, types: &[Bytes], block: &Block) -> Result<Found, AllocError>
     requires few { (length types.now < 2 ^ 32) × (block_statements (block_view block.now) ≤ 200) }
-    ensures findings { IfOk result (λ found. found.findings.items ≡ marks_of.block_findings types.now (block_view block.now)) }
-    ensures names { IfOk result (λ found. found.names ≡ texts.block_names types.now (block_view block.now)) }
+    ensures findings { IfOk result (λ found. found.findings ≡ marks_of.block_findings types.now (block_view block.now)) }
+    ensures names { IfOk result (λ found. found.names ≡ meaning.block_names types.now (block_view block.now)) }
 {
     findings_in(alloc, types, statements_of(block))
 }
 
 fn nothing_found(alloc: Global) -> Found
-    ensures { (result.findings.items ≡ []) × (result.names ≡ []) }
+    ensures { (result.findings ≡ []) × (result.names ≡ []) }
 {
     Found {
-        findings: Vec::new(alloc),
+        findings: Row::new(alloc),
         names: Row::new(alloc),
     }
 }
@@ -106,8 +107,8 @@ fn findings_of_main(
     declarations: &[Declaration],
 ) -> Result<Found, AllocError>
     requires few { (length types.now < 2 ^ 32) × (main_statements (map declaration_view declarations.now) ≤ 200) }
-    ensures findings { IfOk result (λ found. found.findings.items ≡ marks_of.main_findings types.now (map declaration_view declarations.now)) }
-    ensures names { IfOk result (λ found. found.names ≡ texts.main_names types.now (map declaration_view declarations.now)) }
+    ensures findings { IfOk result (λ found. found.findings ≡ marks_of.main_findings types.now (map declaration_view declarations.now)) }
+    ensures names { IfOk result (λ found. found.names ≡ meaning.main_names types.now (map declaration_view declarations.now)) }
 {
     let mut left = declarations;
     'left: while let [first, others @ ..] = left {
@@ -122,11 +123,11 @@ fn findings_of_main(
 }
 
 /// The findings of a text of the second form, all of them in order, and the names of its `main`.
-#[tactic(auto, unfolding(own_meaning::specs::Marks::findings_of, crate::specs::FindingTexts::names_of))]
+#[tactic(auto, unfolding(own_meaning::specs::Marks::findings_of))]
 pub(crate) fn findings(alloc: Global, tree: &Tree) -> Result<Found, AllocError>
-    requires few { (main_statements (tree_view tree.now).declarations ≤ 200) × (length (meaning.types_of (tree_view tree.now).declarations) ≤ 20) }
-    ensures findings { IfOk result (λ found. found.findings.items ≡ findings_of (tree_view tree.now)) }
-    ensures names { IfOk result (λ found. found.names ≡ texts.names_of (tree_view tree.now)) }
+    requires { IsScoped (tree_view tree.now) }
+    ensures findings { IfOk result (λ found. found.findings ≡ findings_of (tree_view tree.now)) }
+    ensures names { IfOk result (λ found. found.names ≡ meaning.names_of (tree_view tree.now)) }
 {
     let types = types_of(alloc, tree.declarations.as_slice())?;
     findings_of_main(alloc, types.as_slice(), tree.declarations.as_slice())

@@ -2,13 +2,13 @@
 
 ghost use Rattle.std.specs.Prelude.{◌≡◌, ◌++◌, ◌≤◌, OnOk, IfOk, codes, length, string_bytes};
 ghost use Rattle.std.specs.Fmt.{decimal};
-ghost use Rattle.own_tool.specs.FindingTexts as spec;
+ghost use Rattle.own_tool.specs.Texts as spec;
 ghost use Rattle.own_report.specs.Place.{place_at};
 
 use crate::texts::place_in;
 use own_meaning::Binding;
 use own_report::LineColumn;
-use own_tree::{Finding, Place};
+use own_tree::{Bytes, Finding, Place, Row};
 use std::alloc::{AllocError, Global};
 
 /// Adds a number in decimal.
@@ -22,7 +22,7 @@ fn push_number(alloc: Global, line: &mut Vec<u8>, number: u32) -> Result<(), All
 
 /// Adds a line and a column.
 fn push_position(alloc: Global, line: &mut Vec<u8>, place: LineColumn) -> Result<(), AllocError>
-    ensures { OnOk result (line.new.items ≡ line.old.items ++ spec.position_text place) }
+    ensures { OnOk result (line.new.items ≡ line.old.items ++ spec.place_pair place) }
 {
     push_number(alloc, line, place.line)?;
     line.extend_from_slice(b":")?;
@@ -30,13 +30,19 @@ fn push_position(alloc: Global, line: &mut Vec<u8>, place: LineColumn) -> Result
 }
 
 /// The name of a binding.
-fn name_at(names: &[Binding], binding: u32) -> &[u8]
-    ensures { result.now ≡ spec.name_at names.now binding }
+fn binding_name(names: &[Binding], binding: u32) -> &[u8]
+    ensures { result.now ≡ spec.binding_name names.now binding }
 {
-    match names.get(binding as usize) {
-        Some(known) => known.name.as_slice(),
-        None => b"",
+    let mut left = names;
+    let mut place = binding;
+    'left: while let [first, others @ ..] = left {
+        if place == 0 {
+            return first.name.as_slice();
+        }
+        place -= 1;
+        left = others;
     }
+    b""
 }
 
 /// Adds the fields of a place.
@@ -55,7 +61,7 @@ fn push_fields(line: &mut Vec<u8>, fields: &[u32]) -> Result<(), AllocError>
 fn push_place(line: &mut Vec<u8>, names: &[Binding], place: &Place) -> Result<(), AllocError>
     ensures { OnOk result (line.new.items ≡ line.old.items ++ spec.place_text names.now place.now) }
 {
-    line.extend_from_slice(name_at(names, place.binding))?;
+    line.extend_from_slice(binding_name(names, place.binding))?;
     push_fields(line, place.fields.as_slice())
 }
 
@@ -68,28 +74,27 @@ fn push_where(
     line: &mut Vec<u8>,
 ) -> Result<(), AllocError>
     requires { length text.now ≤ 1048576 }
-    ensures { OnOk result (line.new.items ≡ line.old.items ++ spec.where_text file.now text.now at) }
+    ensures { OnOk result (line.new.items ≡ line.old.items ++ spec.place_after file.now (place_at text.now at)) }
 {
     line.extend_from_slice(file.as_bytes())?;
     line.extend_from_slice(b":")?;
     push_position(alloc, line, place_in(text, at))
 }
 
-/// Adds what a finding says.
-fn push_what(
-    alloc: Global,
-    text: &[u8],
-    names: &[Binding],
-    finding: &Finding,
-    line: &mut Vec<u8>,
-) -> Result<(), AllocError>
-    requires { length text.now ≤ 1048576 }
-    ensures { OnOk result (line.new.items ≡ line.old.items ++ spec.what_text text.now names.now finding.now) }
+#[tactic(auto, unfolding(crate::specs::Texts::before_place))]
+fn push_before_place(line: &mut Vec<u8>) -> Result<(), AllocError>
+    ensures { OnOk result (line.new.items ≡ line.old.items ++ spec.before_place) }
 {
-    line.extend_from_slice(b"'")?;
-    push_place(line, names, &finding.place)?;
+    line.extend_from_slice(b": error[O1]: '")?;
+    Ok(())
+}
+
+#[tactic(auto, unfolding(crate::specs::Texts::before_cause))]
+fn push_before_cause(line: &mut Vec<u8>) -> Result<(), AllocError>
+    ensures { OnOk result (line.new.items ≡ line.old.items ++ spec.before_cause) }
+{
     line.extend_from_slice(b"' is used after it was consumed at ")?;
-    push_position(alloc, line, place_in(text, finding.cause.start))
+    Ok(())
 }
 
 /// Adds the line of a finding.
@@ -105,8 +110,10 @@ fn push_finding(
     ensures { OnOk result (line.new.items ≡ line.old.items ++ spec.finding_line file.now text.now names.now finding.now) }
 {
     push_where(alloc, file, text, finding.span.start, line)?;
-    line.extend_from_slice(b": error[O1]: ")?;
-    push_what(alloc, text, names, finding, line)?;
+    push_before_place(line)?;
+    push_place(line, names, &finding.place)?;
+    push_before_cause(line)?;
+    push_position(alloc, line, place_in(text, finding.cause.start))?;
     line.extend_from_slice(b"\n")?;
     Ok(())
 }
@@ -118,13 +125,13 @@ pub(crate) fn finding_lines(
     text: &[u8],
     names: &[Binding],
     findings: &[Finding],
-) -> Result<Vec<u8>, AllocError>
+) -> Result<Bytes, AllocError>
     requires { length text.now ≤ 1048576 }
-    ensures { IfOk result (λ lines. lines.items ≡ spec.finding_lines file.now text.now names.now findings.now) }
+    ensures { IfOk result (λ lines. lines ≡ spec.lines_of file.now text.now names.now findings.now) }
 {
     let mut lines = Vec::new(alloc);
     for finding in findings {
         push_finding(alloc, file, text, names, finding, &mut lines)?;
     }
-    Ok(lines)
+    Ok(Row::from_vec(lines))
 }

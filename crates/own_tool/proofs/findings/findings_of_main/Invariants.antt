@@ -1,7 +1,7 @@
 use Rattle.std.proofs.Common.{◌≡◌, ◌≤◌, length, map}
 use Rattle.own_tree.specs.View.{declaration_view}
 use Rattle.own_meaning.specs.Marks.{main_findings}
-use Rattle.own_tool.specs.FindingTexts.{main_names}
+use Rattle.own_meaning.specs.Findings.{main_names}
 use Rattle.own_tool.specs.MainSize.{main_statements}
 use Rattle.own_tool.proofs.findings.findings_of_main.Given as goal
 

@@ -1,5 +1,5 @@
 use Rattle.std.proofs.Common.{◌≡◌, ◌++◌, length}
-use Rattle.own_tool.specs.FindingTexts.{fields_text}
+use Rattle.own_tool.specs.Texts.{fields_text}
 use Rattle.own_tool.proofs.findings.lines.push_fields.Given as goal
 
 abbrev pub invariant-left : goal.invariant-left
