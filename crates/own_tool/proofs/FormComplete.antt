@@ -19,11 +19,11 @@ use Rattle.own_tool.specs.FormReading.{starts, blanks_at, ends_at, name_at, numb
 use Rattle.own_tool.proofs.FormFacts.{is_either, stands_starts, stands_skip, stands_again, ends_no_plus, no_plus, no_let, let_no_close, print_no_close}
 use Rattle.own_tool.proofs.FormSound.{list_of, stms_of-list_of}
 
-blanks_again : (t u : Text) → Blanks t u → blanks_at t ≡ Some u
+pub blanks_again : (t u : Text) → Blanks t u → blanks_at t ≡ Some u
 unfolding blanks_at
 blanks_again t u h = rw h.0 (ap (λ (v : Text). Some v) (sym h.1))
 
-ends_again : (t u : Text) → Ends t u → ends_at t ≡ Some u
+pub ends_again : (t u : Text) → Ends t u → ends_at t ≡ Some u
 unfolding ends_at
 ends_again t u h = rw (blanks_again t u h.0, h.1) refl
 
@@ -40,7 +40,7 @@ name_again name t u sp =
     pair_is a b s r v w p q o = rw (p, q, o) refl
 
 -- how a number and a name begin
-digit_first : (xs : List ℕ) → is_number (run is_ascii_digit (record { at = 0; rest = xs })) ≡ true → begins_digit xs ≡ true
+pub digit_first : (xs : List ℕ) → is_number (run is_ascii_digit (record { at = 0; rest = xs })) ≡ true → begins_digit xs ≡ true
 digit_first [] is = absurd cc
 digit_first (c ∷ xs) is = elim (is_either (is_ascii_digit c)) [
   | inl digit ↦ digit

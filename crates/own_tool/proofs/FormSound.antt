@@ -13,11 +13,11 @@ use Rattle.own_tool.specs.Form.{Text, skip, span, till, Stands, run, past, is_bl
 use Rattle.own_tool.specs.FormReading.{◌>>=◌, starts, stands_at, blanks_at, ends_at, name_at, number_at, path_at, begins_digit, atom_at, more_on, sum_at, let_on, print_on, statement_at, statements_on, form_at}
 use Rattle.own_tool.proofs.FormFacts.{bind_some, some_is, guarded, chosen, starts_stands, stands_sound}
 
-blanks_sound : (t u : Text) → blanks_at t ≡ Some u → Blanks t u
+pub blanks_sound : (t u : Text) → blanks_at t ≡ Some u → Blanks t u
 unfolding blanks_at
 blanks_sound t u e = let g = guarded (nat_le 1 (length (run is_blank t))) (past is_blank t) u e in (g.0, sym g.1)
 
-ends_sound : (t u : Text) → ends_at t ≡ Some u → Ends t u
+pub ends_sound : (t u : Text) → ends_at t ≡ Some u → Ends t u
 unfolding ends_at
 ends_sound t u e =
     let b = bind_some (blanks_at t) _ u e in

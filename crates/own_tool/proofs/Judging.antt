@@ -1,5 +1,5 @@
 -- From what the parts of a call answer to what the call answers.
-use Rattle.std.proofs.Common.{◌≡◌, ◌≢◌, ℕ, zero, suc, ◌<◌, ◌≤◌, inl, inr, List, [], length, take, drop, Some, None, refl, sym, ap, ◌∙◌, subst, append-nil, arith}
+use Rattle.std.proofs.Common.{◌≡◌, ◌≢◌, ℕ, ◌<◌, ◌≤◌, inl, inr, List, [], length, take, drop, Some, None, refl, sym, ap, ◌∙◌, subst, append-nil, arith}
 use Rattle.std.proofs.lemmas.List.{take-append-drop, length-take-le}
 use Rattle.own_tree.specs.declared.status.Status.{Status}
 use Rattle.own_tree.specs.declared.status.Status.TheVariants as status
@@ -14,15 +14,28 @@ use Rattle.own_tool.specs.declared.judged.Ending.{Ending}
 use Rattle.own_tool.specs.declared.judged.Ending.TheVariants as ending
 use Rattle.own_tool.specs.declared.judged.Judged.{Judged}
 use Rattle.own_tool.specs.declared.judged.Judged.TheVariants as judged
-use Rattle.own_tool.specs.Form.{IsFirstForm}
-use Rattle.own_tool.specs.Run.{Outcome, Ended, Trapped, Cut, Wrong, run}
+use Rattle.own_tree.specs.declared.finding.Finding.{Finding}
+use Rattle.own_meaning.specs.Findings.{AreFindings, uses_of, IsSound}
+use Rattle.own_meaning.specs.Run.{Outcome, Ended, Trapped, Cut, Wrong, run}
+use Rattle.own_meaning.specs.Laws.{IsAcceptedTree, RunsWell, IsWhole}
+use Rattle.own_meaning.proofs.Laws.{accepted_run_well}
+use Rattle.own_meaning.proofs.MoreTurns.{more_output, same_with_more_turns}
+use Rattle.own_tool.specs.SecondForm.{IsSecondForm}
+use Rattle.own_tool.proofs.SecondSpread.{spelled_spread}
+use Rattle.own_meaning.specs.Marks.{findings_of}
+use Rattle.own_meaning.proofs.Checked.{findings_are, sound_where_none}
+use Rattle.own_tool.specs.Texts.{finding_lines}
+use Rattle.std.specs.Prelude.{Bool, true, false, nat_lt}
+use Rattle.std.proofs.lemmas.Bool.{ltb-true, ltb-false}
 use Rattle.own_tool.specs.Lower.{lowered}
 use Rattle.own_tool.specs.Words.{file_to_run}
 use Rattle.own_tool.specs.Texts.{usage_line, memory_line, read_line, too_long_line, not_built_line, trap_line}
-use Rattle.own_tool.specs.Headline.{DEFAULT_STEPS, MOST_BYTES, IsPrefix, IsProperPrefix, IsPaid, Follows, Told, IsContent, Accepts, FileAnswers, Answers}
+use Rattle.own_tool.specs.Headline.{DEFAULT_STEPS, MOST_BYTES, IsPrefix, IsProperPrefix, Follows, Told, IsContent, AreItsFindings, Accepts, FileAnswers, Answers}
 use Rattle.own_tool.specs.Saying.{Said, IsConcluded}
 use Rattle.own_tool.specs.Judged.{answer_of, line_of, EndsAs, IsJudged, ending_of}
 use Rattle.own_tool.proofs.Whole.{Agrees, file_agrees}
+use Rattle.std.specs.Prelude.{◌⊎◌}
+use Rattle.own_meaning.specs.Run.{Behaviour}
 
 -- ---- parts of a line
 
@@ -34,36 +47,69 @@ cut_short answer line k old new faults short part fault = inr (refl, fault, take
 
 -- ---- the machine's run and the text's
 
-pub all_written : (outcome : Outcome) (output : List ℕ) (r : List ℕ × machine.Outcome) → Agrees outcome output r → r.0 ≡ output
+-- the text is in the form, and breaks no rule
+abbrev pub InForm : List ℕ → File → Type 0
+InForm text program = IsSecondForm text program × IsSound program
+
+accepted_tree : (text : List ℕ) (program : File) → InForm text program → IsAcceptedTree program
+accepted_tree text program h = record { scoped = h.0.1; spread = spelled_spread text program h.0.0; sound = h.1 }
+
+runs_well : (text : List ℕ) (program : File) → InForm text program → RunsWell program
+runs_well text program h = accepted_run_well program (accepted_tree text program h)
+
+-- a text without findings breaks no rule
+pub sound_found : (text : List ℕ) (program : File) (fs : List Finding) → IsSecondForm text program → fs ≡ findings_of program → fs ≡ [] → IsSound program
+sound_found text program fs form is none = let back = (sound_where_none program form.1 (spelled_spread text program form.0)).1 in back (sym is ∙ none)
+
+pub its_findings : (file text said : List ℕ) (program : File) (fs : List Finding) → IsSecondForm text program → fs ≡ findings_of program → fs ≢ [] → said ≡ finding_lines file text program fs → AreItsFindings file text said
+its_findings file text said program fs form is some line =
+    (program, fs, form, subst (AreFindings (uses_of program)) (sym is) (findings_are program form.1 (spelled_spread text program form.0)), some, line)
+
+-- the machine did what the run did, which ended or trapped
+abbrev pub Does : Outcome → List ℕ → List ℕ × machine.Outcome → Type 0
+Does Ended output r = (steps : ℕ) × (r ≡ (output, machine.Ended steps))
+Does (Trapped code at) output r = r ≡ (output, machine.Trapped code at)
+Does Cut output r = ⊥
+Does Wrong output r = ⊥
+
+does : (outcome : Outcome) (output : List ℕ) (r : List ℕ × machine.Outcome) → IsWhole outcome → Agrees outcome output r → Does outcome output r
+does Ended output r whole a = a
+does (Trapped code at) output r whole a = a
+does Cut output r whole a = absurd whole
+does Wrong output r whole a = absurd whole
+
+pub all_written : (outcome : Outcome) (output : List ℕ) (r : List ℕ × machine.Outcome) → Does outcome output r → r.0 ≡ output
 all_written Ended output r a = ap (λ (x : List ℕ × machine.Outcome). x.0) a.1
 all_written (Trapped code at) output r a = ap (λ (x : List ℕ × machine.Outcome). x.0) a
 all_written Cut output r a = absurd a
 all_written Wrong output r a = absurd a
 
-pub has_ended : (outcome : Outcome) (output : List ℕ) (r : List ℕ × machine.Outcome) (steps : ℕ) → Agrees outcome output r → r.1 ≡ machine.Ended steps → outcome ≡ Ended
+pub has_ended : (outcome : Outcome) (output : List ℕ) (r : List ℕ × machine.Outcome) (steps : ℕ) → Does outcome output r → r.1 ≡ machine.Ended steps → outcome ≡ Ended
 has_ended Ended output r steps a e = refl
 has_ended (Trapped code at) output r steps a e = let f : r.1 ≡ machine.Trapped code at = ap (λ (x : List ℕ × machine.Outcome). x.1) a in absurd (cc)
 has_ended Cut output r steps a e = absurd a
 has_ended Wrong output r steps a e = absurd a
 
-pub has_trapped : (outcome : Outcome) (output : List ℕ) (r : List ℕ × machine.Outcome) (code at : ℕ) → Agrees outcome output r → r.1 ≡ machine.Trapped code at → outcome ≡ Trapped code at
+pub has_trapped : (outcome : Outcome) (output : List ℕ) (r : List ℕ × machine.Outcome) (code at : ℕ) → Does outcome output r → r.1 ≡ machine.Trapped code at → outcome ≡ Trapped code at
 has_trapped Ended output r code at a e = let f : r.1 ≡ machine.Ended a.0 = ap (λ (x : List ℕ × machine.Outcome). x.1) a.1 in absurd (cc)
 has_trapped (Trapped c p) output r code at a e = let f : r.1 ≡ machine.Trapped c p = ap (λ (x : List ℕ × machine.Outcome). x.1) a in cc
 has_trapped Cut output r code at a e = absurd a
 has_trapped Wrong output r code at a e = absurd a
 
-pub never_running : (outcome : Outcome) (output : List ℕ) (r : List ℕ × machine.Outcome) → Agrees outcome output r → r.1 ≡ machine.Running → ⊥
+pub never_running : (outcome : Outcome) (output : List ℕ) (r : List ℕ × machine.Outcome) → Does outcome output r → r.1 ≡ machine.Running → ⊥
 never_running Ended output r a e = let f : r.1 ≡ machine.Ended a.0 = ap (λ (x : List ℕ × machine.Outcome). x.1) a.1 in cc
 never_running (Trapped code at) output r a e = let f : r.1 ≡ machine.Trapped code at = ap (λ (x : List ℕ × machine.Outcome). x.1) a in cc
 never_running Cut output r a e = a
 never_running Wrong output r a e = a
 
 -- the run of a text of the form and the machine's, with the steps that a run has by default
-pub default_agrees : (text : List ℕ) (program : File) → IsFirstForm text program
-    → Agrees (run program [] DEFAULT_STEPS).outcome (run program [] DEFAULT_STEPS).output (machine_run (lowered program) [] DEFAULT_STEPS)
-default_agrees text program form = file_agrees text program [] 9223372036854775806 DEFAULT_STEPS form (omega arith)
+pub default_agrees : (text : List ℕ) (program : File) → InForm text program
+    → Does (run program [] DEFAULT_STEPS).outcome (run program [] DEFAULT_STEPS).output (machine_run (lowered program) [] DEFAULT_STEPS)
+default_agrees text program form =
+    does (run program [] DEFAULT_STEPS).outcome (run program [] DEFAULT_STEPS).output (machine_run (lowered program) [] DEFAULT_STEPS)
+    ((runs_well text program form).comes_out [] DEFAULT_STEPS (omega arith)) (file_agrees program [] DEFAULT_STEPS DEFAULT_STEPS form.0.1 (omega arith))
 
-module _ (text : List ℕ) (program : File) (form : IsFirstForm text program) (old new : outside.Told) (faults faults' : ℕ) where
+module _ (text : List ℕ) (program : File) (form : InForm text program) (old new : outside.Told) (faults faults' : ℕ) where
   output_is : (machine_run (lowered program) [] DEFAULT_STEPS).0 ≡ (run program [] DEFAULT_STEPS).output
   output_is = all_written (run program [] DEFAULT_STEPS).outcome (run program [] DEFAULT_STEPS).output (machine_run (lowered program) [] DEFAULT_STEPS) (default_agrees text program form)
 
@@ -98,32 +144,45 @@ module _ (text : List ℕ) (program : File) (form : IsFirstForm text program) (o
   ran_as ran.Running r = running_as r
   ran_as ran.SinkFault r = faulted_as r
 
--- ---- runs of a text of the form do not depend on how many turns there are beyond the first
-
-pub empty_prefix : (xs : List ℕ) → IsPrefix [] xs
-empty_prefix xs = (xs, refl)
+-- ---- runs with other numbers of turns
 
 pub same_prefix : (xs : List ℕ) → IsPrefix xs xs
 same_prefix xs = ([], sym (append-nil xs))
 
-pub whole_follows : (program : File) → Follows program [] DEFAULT_STEPS (run program [] DEFAULT_STEPS).output
-unfolding run
-whole_follows program = record {
+not_cut : (outcome : Outcome) → IsWhole outcome → outcome ≢ Cut
+not_cut Ended whole e = absurd (cc)
+not_cut (Trapped code at) whole e = absurd (cc)
+not_cut Cut whole e = whole
+not_cut Wrong whole e = whole
+
+either_way : (m n : ℕ) → (m ≤ n) ⊎ (n ≤ m)
+either_way m n =
+    let P : Bool → Type 0 = λ b. nat_lt m n ≡ b → (m ≤ n) ⊎ (n ≤ m) in
+    elim (nat_lt m n) as P [
+      | true ↦ λ less. inl (let lt = ltb-true _ _ less in omega (arith, lt))
+      | false ↦ λ more. inr (ltb-false _ _ more)
+    ] refl
+
+-- with fewer turns than the default a run writes a front of it, and with more the same
+reaches_whole : (text : List ℕ) (program : File) → InForm text program → (n : ℕ) → (n ≤ DEFAULT_STEPS) ⊎ (DEFAULT_STEPS ≤ n) → IsPrefix (run program [] n).output (run program [] DEFAULT_STEPS).output
+reaches_whole text program form n (inl fewer) = more_output program [] n DEFAULT_STEPS fewer
+reaches_whole text program form n (inr more) =
+    let whole = not_cut (run program [] DEFAULT_STEPS).outcome ((runs_well text program form).comes_out [] DEFAULT_STEPS (omega arith)) in
+    subst (IsPrefix (run program [] n).output) (ap (λ (b : Behaviour). b.output) (same_with_more_turns program [] DEFAULT_STEPS n more whole)) (same_prefix (run program [] n).output)
+
+pub whole_follows : (text : List ℕ) (program : File) → InForm text program → Follows program [] DEFAULT_STEPS (run program [] DEFAULT_STEPS).output
+whole_follows text program form = record {
   within = same_prefix (run program [] DEFAULT_STEPS).output;
-  reaches = reaches_whole program;
+  reaches = λ n paid. reaches_whole text program form n (either_way n DEFAULT_STEPS);
 }
-  where
-    reaches_whole : (p : File) (n : ℕ) → IsPaid DEFAULT_STEPS p n → IsPrefix (run p [] n).output (run p [] DEFAULT_STEPS).output
-    reaches_whole p zero paid = empty_prefix (run p [] DEFAULT_STEPS).output
-    reaches_whole p (suc n) paid = same_prefix (run p [] DEFAULT_STEPS).output
 
 module _ (folder : Told) (faults : Type 0) (file : List ℕ) where
-  accepts : (text : List ℕ) (program : File) (gained : List ℕ) → IsContent folder file text → length text ≤ MOST_BYTES → IsFirstForm text program → gained ≡ (run program [] DEFAULT_STEPS).output → Accepts folder file text program gained
-  accepts text program gained content short form whole = (content, (form, short), subst (Follows program [] DEFAULT_STEPS) (sym whole) (whole_follows program))
+  accepts : (text : List ℕ) (program : File) (gained : List ℕ) → IsContent folder file text → length text ≤ MOST_BYTES → InForm text program → gained ≡ (run program [] DEFAULT_STEPS).output → Accepts folder file text program gained
+  accepts text program gained content short form whole = (content, (form.0, form.1, short), ((runs_well text program form).untouched, (runs_well text program form).once), subst (Follows program [] DEFAULT_STEPS) (sym whole) (whole_follows text program form))
 
   -- the answer that a run of a text of the form has, with its whole output
-  pub wanted : (text : List ℕ) (program : File) (outcome : Outcome) → IsContent folder file text → length text ≤ MOST_BYTES → IsFirstForm text program
-      → (run program [] DEFAULT_STEPS).outcome ≡ outcome → Agrees outcome (run program [] DEFAULT_STEPS).output (machine_run (lowered program) [] DEFAULT_STEPS)
+  pub wanted : (text : List ℕ) (program : File) (outcome : Outcome) → IsContent folder file text → length text ≤ MOST_BYTES → InForm text program
+      → (run program [] DEFAULT_STEPS).outcome ≡ outcome → Does outcome (run program [] DEFAULT_STEPS).output (machine_run (lowered program) [] DEFAULT_STEPS)
       → (answer : Status) × (words : List ℕ) × FileAnswers folder faults file answer (run program [] DEFAULT_STEPS).output words
   wanted text program Ended content short form is a = (status.Done, [], (text, program, accepts text program _ content short form refl, record { outcome_is = is; output_is = refl }, refl))
   wanted text program (Trapped code at) content short form is a = (status.Trapped, trap_line file text code at, (text, program, code, at, accepts text program _ content short form refl, record { outcome_is = is; output_is = refl }, refl))
@@ -155,7 +214,7 @@ module _ (folder : Told) (faults : Type 0) (file : List ℕ) where
         (gained, s.2, k, s.4, let P : Status → Type 0 = λ r. Answers folder faults faults_of_out faults_of_err words r gained s.2 in subst P (sym s.0) (answer, gained, line, rw named h, inr (s.1, refl, s.3)))
 
     -- after a fault of the output nothing is said
-    pub cut_answered : (text : List ℕ) (program : File) (gained : List ℕ) (k_old k_new e_old e_new : outside.Told) (result : Status) → IsContent folder file text → length text ≤ MOST_BYTES → IsFirstForm text program
+    pub cut_answered : (text : List ℕ) (program : File) (gained : List ℕ) (k_old k_new e_old e_new : outside.Told) (result : Status) → IsContent folder file text → length text ≤ MOST_BYTES → InForm text program
         → faults_of_out → IsProperPrefix gained (run program [] DEFAULT_STEPS).output → k_new ≡ told_after k_old gained → Said status.WriteFault [] result e_old e_new faults_of_err → Concludes k_old k_new e_old e_new result
     cut_answered text program gained k_old k_new e_old e_new result content short form fault front k (inl s) =
         let w = wanted text program (run program [] DEFAULT_STEPS).outcome content short form refl (default_agrees text program form) in
@@ -169,7 +228,7 @@ module _ (folder : Told) (faults : Type 0) (file : List ℕ) where
       text_concluded : (text : List ℕ) (end : Ending) → IsContent folder file text → length text ≤ MOST_BYTES → EndsAs text end k_old k_new faults_of_out
           → Said (answer_of (judged.Ran text end)) (line_of file (judged.Ran text end)) result e_old e_new faults_of_err → Concludes k_old k_new e_old e_new result
       text_concluded text ending.NotBuilt content short h s =
-          answered status.Refused [] (not_built_line file) k_old k_new e_old e_new result (refl, inl (text, content, short, (λ program a. h.1 program a.0), refl)) (unchanged h.0) s
+          answered status.Refused [] (not_built_line file) k_old k_new e_old e_new result (refl, inl (text, content, short, inl (h.1, refl))) (unchanged h.0) s
       text_concluded text ending.Done content short h s =
           answered status.Done h.1 [] k_old k_new e_old e_new result (text, h.0, accepts text h.0 h.1 content short h.2 h.4.1, record { outcome_is = h.4.0; output_is = h.4.1 }, refl) h.3 s
       text_concluded text (ending.Trapped code at) content short h s =
@@ -180,6 +239,7 @@ module _ (folder : Told) (faults : Type 0) (file : List ℕ) where
       -- what a file came to, and what was said of it
       pub concluded : (j : Judged) → IsJudged folder faults file j k_old k_new faults_of_out → Said (answer_of j) (line_of file j) result e_old e_new faults_of_err → Concludes k_old k_new e_old e_new result
       concluded judged.ReadFault h s = answered status.ReadFault [] (read_line file) k_old k_new e_old e_new result (h.1, refl, refl) (unchanged h.0) s
+      concluded (judged.Found lines) h s = answered status.Refused [] lines k_old k_new e_old e_new result (refl, inl (h.1.0, h.1.1, h.1.2, inr h.1.3)) (unchanged h.0) s
       concluded judged.TooLong h s = answered status.Refused [] (too_long_line file) k_old k_new e_old e_new result (refl, inr (h.1, refl)) (unchanged h.0) s
       concluded (judged.Ran text end) h s = text_concluded text end h.0 h.1 h.2 s
 
@@ -192,15 +252,16 @@ module _ (folder : Told) (faults : Type 0) (file : List ℕ) where
           → Said status.Memory memory_line result e_old e_new faults_of_err → Concludes k_old k_new e_old e_new result
       text_unsaid text ending.NotBuilt whole content short h s = without_memory h.0 s
       text_unsaid text ending.Done whole content short h s =
-          answered status.Memory h.1 memory_line k_old k_new e_old e_new result (refl, inr (text, h.0, content, (h.2, short), h.4.1)) h.3 s
+          answered status.Memory h.1 memory_line k_old k_new e_old e_new result (refl, inr (text, h.0, content, (h.2.0, h.2.1, short), h.4.1)) h.3 s
       text_unsaid text (ending.Trapped code at) whole content short h s =
-          answered status.Memory h.1 memory_line k_old k_new e_old e_new result (refl, inr (text, h.0, content, (h.2, short), h.4.1)) h.3 s
+          answered status.Memory h.1 memory_line k_old k_new e_old e_new result (refl, inr (text, h.0, content, (h.2.0, h.2.1, short), h.4.1)) h.3 s
       text_unsaid text ending.OutOfSteps whole content short h s = absurd h
       text_unsaid text ending.SinkFault whole content short h s = absurd (whole refl)
 
       pub unsaid : (j : Judged) → answer_of j ≢ status.WriteFault → IsJudged folder faults file j k_old k_new faults_of_out → Said status.Memory memory_line result e_old e_new faults_of_err → Concludes k_old k_new e_old e_new result
       unsaid judged.ReadFault whole h s = without_memory h.0 s
       unsaid judged.TooLong whole h s = without_memory h.0 s
+      unsaid (judged.Found lines) whole h s = without_memory h.0 s
       unsaid (judged.Ran text end) whole h s = text_unsaid text end whole h.0 h.1 h.2 s
 
       -- what a file came to, however it was concluded

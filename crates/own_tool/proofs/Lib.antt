@@ -1,3 +1,4 @@
+pub mod FindingSteps
 pub mod FormComplete
 pub mod FormFacts
 pub mod FormLaws
@@ -10,5 +11,12 @@ pub mod LowerSteps
 pub mod Opcodes
 pub mod Paths
 pub mod Statements
+pub mod SecondComplete
+pub mod SecondLoops
+pub mod SecondSound
+pub mod SecondSpread
+pub mod SecondStructs
+pub mod SecondTextComplete
+pub mod SecondTextSound
 pub mod Sums
 pub mod Whole

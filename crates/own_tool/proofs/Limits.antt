@@ -1,5 +1,5 @@
--- The module of a text of the first form is within the limits that the machine relies on.
-use Rattle.std.proofs.Common.{◌≡◌, ℕ, zero, suc, ◌+◌, ◌≤◌, max, List, [], ◌∷◌, ◌++◌, length, Some, None, refl, ap, sym, ◌∙◌, subst, arith}
+-- The module of a text of the second form is within the limits that the machine relies on.
+use Rattle.std.proofs.Common.{◌≡◌, ℕ, zero, suc, ◌+◌, ◌≤◌, max, Option, List, [], ◌∷◌, ◌++◌, length, Some, None, refl, ap, ◌∙◌, subst, length-append, arith}
 use Rattle.std.specs.Prelude.{slice_get}
 use Rattle.wasm_form.specs.declared.instr.Instr.{Instr, out-Instr, fold-Instr, fold_out-Instr}
 use Rattle.wasm_form.specs.declared.instr.Instr.TheFolds.{map-Instr}
@@ -12,11 +12,11 @@ use Rattle.wasm_form.specs.declared.types.ValueType.TheVariants as type
 use Rattle.wasm_form.specs.Within.{IsWithin, FunctionIsWithin, nest, nest_one, nest_layer}
 use Rattle.wasm_form.specs.Steps.{defined_type}
 use Rattle.wasm_form.proofs.Outs.{out_unreachable, out_i64_const, out_i32_const, out_local_get, out_local_set, out_local_tee, out_i64_add, out_i64_lt_s, out_if, out_call}
-use Rattle.own_tree.specs.Source.{Exp, number, path, binary, call, value, Args, no_args, arg, Stm, let_in, evaluate, Stms, no_stms, stm, File}
-use Rattle.own_tool.specs.Form.{IsFirstForm, names_after, statements}
-use Rattle.own_tool.specs.Lower.{add_code, sum_code, argument_code, print_code, statement_code, statements_code, all_names, module_with, lowered, file_statements}
-use Rattle.own_tool.proofs.Whole.{locals_counted}
-use Rattle.own_tool.proofs.Statements.{lets}
+use Rattle.own_tree.specs.Source.{Exp, number, path, consumed, binary, call, value, Args, no_args, arg, Stm, let_in, ignore, evaluate, Stms, no_stms, stm, Blk, block, Decl, struct_of, function, File}
+use Rattle.own_meaning.specs.Scoped.{IsScoped, AreDeclared, IsBody}
+use Rattle.own_tool.specs.declared.lower.Local.{Local}
+use Rattle.own_tool.specs.Lower.{add_code, sum_code, argument_code, value_code, line_code, print_code, bytes_code, word_of, farewell_code, end_code, ends_code, ignore_code, statement_code, statements_code, locals_after, all_locals, module_with, lowered_body, lowered_in, lowered, IsShortBody, AreShortBodies}
+use Rattle.own_tool.proofs.Whole.{locals_counted, lets_few}
 
 -- ---- how deep labels nest in an instruction, from the lists in it
 
@@ -93,35 +93,57 @@ unreachable_flat = (zero_is_flat _ nothing, tt)
 add_flat : (at : ℕ) → AreFlat (add_code at)
 add_flat at = (zero_is_flat _ add, (zero_is_flat _ (tee 0), (zero_is_flat _ (const64 0), (zero_is_flat _ less, (rw (trap_nests at) (omega arith), (zero_is_flat _ (get 0), tt))))))
 
-sum_flat : (names : List (List ℕ)) (e : Exp) → AreFlat (sum_code names e)
-sum_flat names (number s negative n) = (zero_is_flat _ (const64 n), tt)
-sum_flat names (path p) = (zero_is_flat _ (get _), tt)
-sum_flat names (binary s op at a b) = flat_both (sum_code names a ++ sum_code names b) (add_code at.start) (flat_both (sum_code names a) (sum_code names b) (sum_flat names a) (sum_flat names b)) (add_flat at.start)
-sum_flat names e = unreachable_flat
+sum_flat : (locals : List Local) (e : Exp) → AreFlat (sum_code locals e)
+sum_flat locals (number s negative n) = (zero_is_flat _ (const64 n), tt)
+sum_flat locals (path p) = (zero_is_flat _ (get _), tt)
+sum_flat locals (binary s op at a b) = flat_both (sum_code locals a ++ sum_code locals b) (add_code at.start) (flat_both (sum_code locals a) (sum_code locals b) (sum_flat locals a) (sum_flat locals b)) (add_flat at.start)
+sum_flat locals e = unreachable_flat
 
-argument_flat : (names : List (List ℕ)) (args : Args) → AreFlat (argument_code names args)
-argument_flat names (arg label (value e) no_args) = sum_flat names e
-argument_flat names args = unreachable_flat
+argument_flat : (locals : List Local) (args : Args) → AreFlat (argument_code locals args)
+argument_flat locals (arg label (value e) no_args) = sum_flat locals e
+argument_flat locals args = unreachable_flat
 
-print_flat : (names : List (List ℕ)) (e : Exp) → AreFlat (print_code names e)
-print_flat names (call s callee args) = flat_both (argument_code names args) (i.Call 0 ∷ i.I32Const 10 ∷ i.Call 1 ∷ []) (argument_flat names args) (zero_is_flat _ (calling 0), (zero_is_flat _ (const32 10), (zero_is_flat _ (calling 1), tt)))
-print_flat names e = unreachable_flat
+value_flat : (locals : List Local) (e : Exp) → AreFlat (value_code locals e)
+value_flat locals (call s callee args) = argument_flat locals args
+value_flat locals e = sum_flat locals e
 
-statement_flat : (names : List (List ℕ)) (s : Stm) → AreFlat (statement_code names s)
-statement_flat names (let_in s keyword name type e) = flat_both (sum_code names e) (i.LocalSet (suc (length names)) ∷ []) (sum_flat names e) (zero_is_flat _ (set _), tt)
-statement_flat names (evaluate e) = print_flat names e
-statement_flat names s = unreachable_flat
+line_flat : AreFlat line_code
+line_flat = (zero_is_flat _ (calling 0), (zero_is_flat _ (const32 10), (zero_is_flat _ (calling 1), tt)))
 
-statements_flat : (names : List (List ℕ)) (ss : Stms) → AreFlat (statements_code names ss)
-statements_flat names no_stms = tt
-statements_flat names (stm s ss) = flat_both (statement_code names s) (statements_code (names_after names s) ss) (statement_flat names s) (statements_flat (names_after names s) ss)
+print_flat : (locals : List Local) (e : Exp) → AreFlat (print_code locals e)
+print_flat locals (call s callee args) = flat_both (argument_code locals args) line_code (argument_flat locals args) line_flat
+print_flat locals e = unreachable_flat
+
+bytes_flat : (bs : List ℕ) → AreFlat (bytes_code bs)
+bytes_flat [] = tt
+bytes_flat (b ∷ bs) = (zero_is_flat _ (const32 b), (zero_is_flat _ (calling 1), bytes_flat bs))
+
+farewell_flat : (word : List ℕ) (local : ℕ) → AreFlat (farewell_code word local)
+farewell_flat word local = flat_both (bytes_code word) (i.I32Const 32 ∷ i.Call 1 ∷ i.LocalGet local ∷ line_code) (bytes_flat word) (zero_is_flat _ (const32 32), (zero_is_flat _ (calling 1), (zero_is_flat _ (get local), line_flat)))
+
+end_flat : (ds : List Decl) (local : ℕ) (o : Option ℕ) → AreFlat (end_code ds local o)
+end_flat ds local (Some k) = farewell_flat (word_of ds k) local
+end_flat ds local None = tt
+
+ends_flat : (ds : List Decl) (local : ℕ) (locals : List Local) → AreFlat (ends_code ds local locals)
+ends_flat ds local [] = tt
+ends_flat ds local (l ∷ locals) = flat_both (ends_code ds (suc local) locals) (end_code ds local l.deinit) (ends_flat ds (suc local) locals) (end_flat ds local l.deinit)
+
+ignore_flat : (ds : List Decl) (locals : List Local) (e : Exp) → AreFlat (ignore_code ds locals e)
+ignore_flat ds locals (consumed s p) = end_flat ds _ _
+ignore_flat ds locals e = unreachable_flat
+
+statement_flat : (ds : List Decl) (locals : List Local) (s : Stm) → AreFlat (statement_code ds locals s)
+statement_flat ds locals (let_in s keyword name type e) = flat_both (value_code locals e) (i.LocalSet (suc (length locals)) ∷ []) (value_flat locals e) (zero_is_flat _ (set _), tt)
+statement_flat ds locals (ignore s type e) = ignore_flat ds locals e
+statement_flat ds locals (evaluate e) = print_flat locals e
+statement_flat ds locals s = unreachable_flat
+
+statements_flat : (ds : List Decl) (locals : List Local) (ss : Stms) → AreFlat (statements_code ds locals ss)
+statements_flat ds locals no_stms = ends_flat ds 1 locals
+statements_flat ds locals (stm s ss) = flat_both (statement_code ds locals s) (statements_code ds (locals_after ds locals s) ss) (statement_flat ds locals s) (statements_flat ds (locals_after ds locals s) ss)
 
 -- ---- the module
-
-lets_few : (ss : Stms) → lets ss ≤ statements ss
-lets_few no_stms = omega arith
-lets_few (stm (let_in s keyword name type e) ss) = omega (arith, lets_few ss)
-lets_few (stm s ss) = omega (arith, lets_few ss)
 
 some_is : {A : Type 0} (x y : A) → Some x ≡ Some y → x ≡ y
 some_is x y e = cc
@@ -149,11 +171,33 @@ module_within locals code few flat = record {
   segments = λ k d below. absurd (omega (arith, below));
 }
 
-pub lowered_within : (text : List ℕ) (file : File) → IsFirstForm text file → IsWithin (lowered file)
-unfolding lowered
-lowered_within text file h =
-    let P : File → Type 0 = λ f. IsWithin (lowered f) in
-    subst P (sym h.11) (module_within (suc (length (all_names [] h.4))) (statements_code [] h.4) (omega (arith, locals_counted [] h.4, lets_few h.4, h.8)) (omega (arith, flat_nests (statements_code [] h.4) (statements_flat [] h.4))))
+body_within : (ds : List Decl) (types : List (List ℕ)) (b : Blk) → IsBody types b → IsWithin (lowered_body ds b)
+body_within ds types (block s ss) h =
+    module_within (suc (length (all_locals ds [] ss))) (statements_code ds [] ss) (omega (arith, locals_counted ds [] ss, lets_few ss, h.1)) (omega (arith, flat_nests (statements_code ds [] ss) (statements_flat ds [] ss)))
 
-pub few_statements : (text : List ℕ) (file : File) → IsFirstForm text file → file_statements file.declarations ≤ 200
-few_statements text file h = let P : File → Type 0 = λ f. file_statements f.declarations ≤ 200 in subst P (sym h.11) h.8
+declarations_within : (all : List Decl) (types : List (List ℕ)) (ds : List Decl) → AreDeclared types ds → IsWithin (lowered_in all ds)
+declarations_within all types (struct_of s name noncopyable members ∷ ds) h = declarations_within all (types ++ name.text ∷ []) ds h.3
+declarations_within all types (function main ∷ []) h = body_within all types main.body h.1.3
+declarations_within all types ds h = absurd h
+
+pub lowered_within : (file : File) → IsScoped file → IsWithin (lowered file)
+unfolding lowered
+lowered_within file h = declarations_within file.declarations [] file.declarations h
+
+-- ---- how much there is to lower
+
+few_declared : (types : List (List ℕ)) (ds : List Decl) → AreDeclared types ds → length types + length ds ≤ 21
+few_declared types (struct_of s name noncopyable members ∷ ds) h = omega (arith, few_declared (types ++ name.text ∷ []) ds h.3, length-append types (name.text ∷ []))
+few_declared types (function main ∷ []) h = omega (arith, h.0)
+few_declared types ds h = absurd h
+
+body_short : (types : List (List ℕ)) (b : Blk) → IsBody types b → IsShortBody b
+body_short types (block s ss) h = h.1
+
+bodies_short : (types : List (List ℕ)) (ds : List Decl) → AreDeclared types ds → AreShortBodies ds
+bodies_short types (struct_of s name noncopyable members ∷ ds) h = bodies_short (types ++ name.text ∷ []) ds h.3
+bodies_short types (function main ∷ []) h = body_short types main.body h.1.3
+bodies_short types ds h = absurd h
+
+pub is_lowered : (file : File) → IsScoped file → AreShortBodies file.declarations × (length file.declarations ≤ 21)
+is_lowered file h = (bodies_short [] file.declarations h, omega (arith, few_declared [] file.declarations h))

@@ -98,10 +98,14 @@ module _ (locals : ℕ) (body : List Instr) (input : List ℤ) where
   unfolding step act call host pop64 pop
   prints n code vs ls = rw (out_call 0) refl
 
-  pub ends_line : (code : List Instr) (vs ls : List Value)
-      → step (module_with locals body) (on main input (i.Call 1 ∷ code) (I32 10 ∷ vs) ls) ≡ Writes (10 ∷ []) (on main input code vs ls)
+  writes_some : (b : ℕ) (code : List Instr) (vs ls : List Value)
+      → step (module_with locals body) (on main input (i.Call 1 ∷ code) (I32 b ∷ vs) ls) ≡ Writes (b % 256 ∷ []) (on main input code vs ls)
   unfolding step act call host pop32 pop
-  ends_line code vs ls = rw (out_call 1) refl
+  writes_some b code vs ls = rw (out_call 1) refl
+
+  pub writes_byte : (b : ℕ) (code : List Instr) (vs ls : List Value) → b < 256
+      → step (module_with locals body) (on main input (i.Call 1 ∷ code) (I32 b ∷ vs) ls) ≡ Writes (b ∷ []) (on main input code vs ls)
+  writes_byte b code vs ls small = let whole : b % 256 ≡ b = omega arith in rw whole at (writes_some b code vs ls)
 
   pub traps_at : (layers : List Layer) (number offset : ℕ) (code : List Instr) (vs ls : List Value)
       → step (module_with locals body) (on layers input (i.Call 2 ∷ code) (I32 offset ∷ I32 number ∷ vs) ls) ≡ Traps number offset

@@ -1,6 +1,6 @@
 -- Reading the first form from left to right: each function gives what stands at a position and the position after it.
 use Rattle.std.specs.Prelude.{◌≡◌, ℕ, zero, suc, ◌+◌, Bool, false, ◌||◌, ◌==◌, nat_le, nat_eq, if◌then◌else◌, List, [], ◌∷◌, ◌++◌, length, Option, Some, None, Result, Ok, Err, codes}
-use Rattle.std.specs.Char.{is_ascii_digit, is_ascii_alphanumeric}
+use Rattle.std.specs.Char.{is_ascii_alphabetic, is_ascii_digit, is_ascii_alphanumeric}
 use Rattle.std.specs.List.{starts_with, list_any}
 use Rattle.own_tree.specs.declared.tree.Name.{Name}
 use Rattle.own_tree.specs.declared.tree.Keyword.TheVariants as keyword
@@ -34,6 +34,7 @@ text_view p = record { at = p.at; rest = p.rest.now }
 abbrev pub bytes_of : Kind → ℕ → Bool
 bytes_of kind.Blank = is_blank
 bytes_of kind.Digit = is_ascii_digit
+bytes_of kind.Letter = is_ascii_alphabetic
 bytes_of kind.NameByte = is_ascii_alphanumeric
 
 abbrev pub starts : List ℕ → Text → Bool

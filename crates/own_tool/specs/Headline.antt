@@ -1,12 +1,15 @@
 -- What a call of the program answers and leaves.
-use Rattle.std.specs.Prelude.{◌≡◌, ℕ, ◌+◌, ◌*◌, ◌≤◌, ◌<◌, ◌⊎◌, ℤ, Bool, IsTrue, List, [], ◌++◌, length, Option, Some, None, IsSomeAnd}
+use Rattle.std.specs.Prelude.{◌≡◌, ◌≢◌, ℕ, ◌+◌, ◌*◌, ◌≤◌, ◌<◌, ◌⊎◌, ℤ, Bool, IsTrue, List, [], ◌++◌, length, Option, Some, None, IsSomeAnd}
 use Rattle.own_tree.specs.declared.status.Status.{Status}
 use Rattle.own_tree.specs.declared.status.Status.TheVariants as status
 use Rattle.own_tree.specs.Source.{File}
-use Rattle.own_tool.specs.Form.{IsFirstForm}
-use Rattle.own_tool.specs.Run.{Outcome, Ended, Trapped, Cut, run}
+use Rattle.own_tree.specs.declared.finding.Finding.{Finding}
+use Rattle.own_meaning.specs.Findings.{AreFindings, uses_of, IsSound}
+use Rattle.own_meaning.specs.Once.{IsUntouched, EndsOnce}
+use Rattle.own_meaning.specs.Run.{Outcome, Ended, Trapped, Cut, run}
+use Rattle.own_tool.specs.SecondForm.{IsSecondForm}
 use Rattle.own_tool.specs.Words.{file_to_run}
-use Rattle.own_tool.specs.Texts.{usage_line, memory_line, steps_line, read_line, too_long_line, not_built_line, trap_line}
+use Rattle.own_tool.specs.Texts.{usage_line, memory_line, steps_line, read_line, too_long_line, not_built_line, trap_line, finding_lines}
 
 -- ---- runs
 
@@ -14,9 +17,14 @@ use Rattle.own_tool.specs.Texts.{usage_line, memory_line, steps_line, read_line,
 abbrev pub MOST_BYTES : ℕ
 MOST_BYTES = 1048576
 
--- the texts that are run, each with its tree
+-- The texts that are run, each with its tree: they are in the second form, and no path or single use breaks a rule
+-- of ownership.
 abbrev pub IsAccepted : List ℕ → File → Type 0
-IsAccepted text program = IsFirstForm text program × (length text ≤ MOST_BYTES)
+IsAccepted text program = IsSecondForm text program × IsSound program × (length text ≤ MOST_BYTES)
+
+-- no run touches a consumed value, and each run that ends has ended each value that it made exactly once
+abbrev pub IsOwned : File → Type 0
+IsOwned program = IsUntouched program × EndsOnce program
 
 -- the steps of a run, where the words name no other number
 abbrev pub DEFAULT_STEPS : ℕ
@@ -55,7 +63,7 @@ IsContent folder file text = IsTrue folder.tells → folder.held file ≡ Some t
 -- `faults` says that the count of the folder's faults rose in this call.
 
 abbrev pub Accepts : Told → (file text : List ℕ) → File → (gained : List ℕ) → Type 0
-Accepts folder file text program gained = IsContent folder file text × IsAccepted text program × Follows program [] DEFAULT_STEPS gained
+Accepts folder file text program gained = IsContent folder file text × IsAccepted text program × IsOwned program × Follows program [] DEFAULT_STEPS gained
 
 abbrev pub IsDone : Told → (file gained said : List ℕ) → Type 0
 IsDone folder file gained said =
@@ -72,10 +80,17 @@ IsOutOfSteps folder file gained said =
     (text : List ℕ) × (program : File) × Accepts folder file text program gained
     × ((n : ℕ) → IsPaid DEFAULT_STEPS program n → (run program [] n).outcome ≡ Cut) × (said ≡ steps_line)
 
--- a text that is not accepted, or one of more bytes than are taken
+-- the findings of a text, all of them and in order, each in a line
+abbrev pub AreItsFindings : (file text said : List ℕ) → Type 0
+AreItsFindings file text said =
+    (program : File) × (findings : List Finding) × IsSecondForm text program × AreFindings (uses_of program) findings
+    × (findings ≢ []) × (said ≡ finding_lines file text program findings)
+
+-- a text that is not in the form, or that breaks rules; or one of more bytes than are taken
 abbrev pub IsRefused : Told → (file gained said : List ℕ) → Type 0
 IsRefused folder file gained said = (gained ≡ []) × (
-    ((text : List ℕ) × IsContent folder file text × (length text ≤ MOST_BYTES) × ((program : File) → IsAccepted text program → ⊥) × (said ≡ not_built_line file))
+    ((text : List ℕ) × IsContent folder file text × (length text ≤ MOST_BYTES)
+    × ((((program : File) → IsSecondForm text program → ⊥) × (said ≡ not_built_line file)) ⊎ AreItsFindings file text said))
     ⊎ ((IsTrue folder.tells → IsSomeAnd (folder.held file) (λ text. MOST_BYTES < length text)) × (said ≡ too_long_line file)))
 
 abbrev pub IsReadFault : Told → (faults : Type 0) → (file gained said : List ℕ) → Type 0

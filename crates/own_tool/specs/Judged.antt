@@ -12,10 +12,11 @@ use Rattle.own_tool.specs.declared.judged.Ending.{Ending}
 use Rattle.own_tool.specs.declared.judged.Ending.TheVariants as ending
 use Rattle.own_tool.specs.declared.judged.Judged.{Judged}
 use Rattle.own_tool.specs.declared.judged.Judged.TheVariants as judged
-use Rattle.own_tool.specs.Form.{IsFirstForm}
-use Rattle.own_tool.specs.Run.{Ended, Trapped, run}
+use Rattle.own_meaning.specs.Findings.{IsSound}
+use Rattle.own_meaning.specs.Run.{Ended, Trapped, run}
+use Rattle.own_tool.specs.SecondForm.{IsSecondForm}
 use Rattle.own_tool.specs.Texts.{read_line, too_long_line, not_built_line, trap_line, steps_line}
-use Rattle.own_tool.specs.Headline.{DEFAULT_STEPS, MOST_BYTES, IsProperPrefix, Told, IsContent}
+use Rattle.own_tool.specs.Headline.{DEFAULT_STEPS, MOST_BYTES, IsProperPrefix, Told, IsContent, AreItsFindings}
 
 -- ---- the answer and its line
 
@@ -29,6 +30,7 @@ answer_of_ending ending.SinkFault = status.WriteFault
 abbrev pub answer_of : Judged → Status
 answer_of judged.ReadFault = status.ReadFault
 answer_of judged.TooLong = status.Refused
+answer_of (judged.Found lines) = status.Refused
 answer_of (judged.Ran text end) = answer_of_ending end
 
 abbrev pub line_of_ending : (file text : List ℕ) → Ending → List ℕ
@@ -41,16 +43,17 @@ line_of_ending file text ending.SinkFault = []
 abbrev pub line_of : (file : List ℕ) → Judged → List ℕ
 line_of file judged.ReadFault = read_line file
 line_of file judged.TooLong = too_long_line file
+line_of file (judged.Found lines) = lines
 line_of file (judged.Ran text end) = line_of_ending file text end
 
 -- ---- what it says of the text, and what the output gained
 
--- this much was written of the run of a text of the form
+-- this much was written of the run of a text that is in the form and breaks no rule
 abbrev pub IsRun : List ℕ → (old new : outside.Told) → (File → List ℕ → Type 0) → Type 0
-IsRun text old new P = (program : File) × (gained : List ℕ) × IsFirstForm text program × (new ≡ told_after old gained) × P program gained
+IsRun text old new P = (program : File) × (gained : List ℕ) × (IsSecondForm text program × IsSound program) × (new ≡ told_after old gained) × P program gained
 
 abbrev pub EndsAs : List ℕ → Ending → (old new : outside.Told) → (faults : Type 0) → Type 0
-EndsAs text ending.NotBuilt old new faults = (new ≡ old) × ((program : File) → IsFirstForm text program → ⊥)
+EndsAs text ending.NotBuilt old new faults = (new ≡ old) × ((program : File) → IsSecondForm text program → ⊥)
 EndsAs text ending.Done old new faults = IsRun text old new (λ p gained. ((run p [] DEFAULT_STEPS).outcome ≡ Ended) × (gained ≡ (run p [] DEFAULT_STEPS).output))
 EndsAs text (ending.Trapped code at) old new faults = IsRun text old new (λ p gained. ((run p [] DEFAULT_STEPS).outcome ≡ Trapped code at) × (gained ≡ (run p [] DEFAULT_STEPS).output))
 EndsAs text ending.OutOfSteps old new faults = ⊥
@@ -61,9 +64,22 @@ abbrev pub TextEndsAs : List ℕ → Result Ending AllocError → (old new : out
 TextEndsAs text (Err e) old new faults = new ≡ old
 TextEndsAs text (Ok end) old new faults = EndsAs text end old new faults
 
+-- what a text came to
+abbrev pub TextIsJudged : (file text : List ℕ) → Judged → (old new : outside.Told) → (faults : Type 0) → Type 0
+TextIsJudged file text judged.ReadFault old new faults = ⊥
+TextIsJudged file text judged.TooLong old new faults = ⊥
+TextIsJudged file text (judged.Found lines) old new faults = (new ≡ old) × AreItsFindings file text lines
+TextIsJudged file text (judged.Ran ran end) old new faults = (ran ≡ text) × EndsAs text end old new faults
+
+abbrev pub TextComesTo : (file text : List ℕ) → Result Judged AllocError → (old new : outside.Told) → (faults : Type 0) → Type 0
+TextComesTo file text (Err e) old new faults = new ≡ old
+TextComesTo file text (Ok found) old new faults = TextIsJudged file text found old new faults
+
 abbrev pub IsJudged : Told → (folder_faults : Type 0) → (file : List ℕ) → Judged → (old new : outside.Told) → (faults : Type 0) → Type 0
 IsJudged folder folder_faults file judged.ReadFault old new faults = (new ≡ old) × (folder_faults ⊎ (IsTrue folder.tells × (folder.held file ≡ None)))
 IsJudged folder folder_faults file judged.TooLong old new faults = (new ≡ old) × (IsTrue folder.tells → IsSomeAnd (folder.held file) (λ text. MOST_BYTES < length text))
+IsJudged folder folder_faults file (judged.Found lines) old new faults =
+    (new ≡ old) × ((text : List ℕ) × IsContent folder file text × (length text ≤ MOST_BYTES) × AreItsFindings file text lines)
 IsJudged folder folder_faults file (judged.Ran text end) old new faults = IsContent folder file text × (length text ≤ MOST_BYTES) × EndsAs text end old new faults
 
 abbrev pub FileIsJudged : Told → (folder_faults : Type 0) → (file : List ℕ) → Result Judged AllocError → (old new : outside.Told) → (faults : Type 0) → Type 0
@@ -81,4 +97,5 @@ ending_of ran.SinkFault = ending.SinkFault
 abbrev pub IsShort : Judged → Type 0
 IsShort judged.ReadFault = Unit {0}
 IsShort judged.TooLong = Unit {0}
+IsShort (judged.Found lines) = Unit {0}
 IsShort (judged.Ran text end) = length text ≤ MOST_BYTES

@@ -1,5 +1,7 @@
 pub mod Form
 pub mod FormReading
+pub mod SecondForm
+pub mod SecondFormReading
 pub mod Run
 pub mod Lower
 pub mod Words
@@ -7,3 +9,4 @@ pub mod Texts
 pub mod Headline
 pub mod Saying
 pub mod Judged
+pub mod MainSize

@@ -8,12 +8,12 @@ ghost use Rattle.own_tool.specs.Form.{IsFirstForm, file_of, statement_tokens, mo
 ghost use Rattle.own_tool.specs.FormReading as reading;
 ghost use Rattle.own_tool.specs.FormReading.{text_view, Gives};
 
-mod look;
-mod position;
+pub(crate) mod look;
+pub(crate) mod position;
 mod statement;
 mod sum;
-mod unread;
-mod words;
+pub(crate) mod unread;
+pub(crate) mod words;
 
 use look::{begins_close, is_end, past_blanks, past_word, start_of};
 use own_tree::limits::MOST_TEXT_BYTES;

@@ -24,6 +24,8 @@ pub(crate) enum Judged {
     ReadFault,
     /// It has more bytes than a text may have.
     TooLong,
+    /// It was read, and it breaks rules: the lines of its findings.
+    Found(Bytes),
     /// It was read, and this text was run, if it is one that runs.
     Ran(Bytes, Ending),
 }

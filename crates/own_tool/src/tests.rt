@@ -121,6 +121,80 @@ fn each_status_has_its_texts(rt: HostRuntime) -> Result<(), Fail> {
 }
 
 #[test]
+fn each_use_of_a_consumed_name_is_named(rt: HostRuntime) -> Result<(), Fail> {
+    let cases = [
+        Case {
+            text: Some(
+                b"struct A: ~Copyable {\n  let n: Int\n  deinit { print(\"end\", n) }\n}\nfunc main() {\n  let x = A(n: 1)\n  let y = x\n  print(x.n)\n  let z = A(n: 2)\n}\nmain()\n",
+            ),
+            words: RUN,
+            status: Status::Refused,
+            out: "",
+            err: "a.swift:8:9: error[O1]: 'x.n' is used after it was consumed at 7:11\n",
+        },
+        Case {
+            text: Some(
+                b"struct A: ~Copyable {\n  let n: Int\n  deinit { print(\"end\", n) }\n}\nfunc main() {\n  let x = A(n: 1)\n  _ = consume x\n  _ = consume x\n  print(x.n)\n}\nmain()\n",
+            ),
+            words: RUN,
+            status: Status::Refused,
+            out: "",
+            err: "a.swift:8:15: error[O1]: 'x' is used after it was consumed at 7:15\na.swift:9:9: error[O1]: 'x.n' is used after it was consumed at 8:15\n",
+        },
+        Case {
+            text: Some(
+                b"struct A: ~Copyable {\n  let n: Int\n  deinit { print(\"end\", n) }\n}\nfunc main() {\n  let x = A(n: 1)\n  let y = x\n  let z = x\n}\nmain()\n",
+            ),
+            words: RUN,
+            status: Status::Refused,
+            out: "",
+            err: "a.swift:8:11: error[O1]: 'x' is used after it was consumed at 7:11\n",
+        },
+    ];
+    for case in &cases {
+        answers(&rt, case, NONE)?;
+    }
+    Ok(())
+}
+
+#[test]
+fn each_value_is_destroyed_once(rt: HostRuntime) -> Result<(), Fail> {
+    let cases = [
+        Case {
+            text: Some(
+                b"struct A: ~Copyable {\n  let n: Int\n  deinit { print(\"end\", n) }\n}\nfunc main() {\n  let x = A(n: 1)\n  let y = x\n  let z = A(n: 2)\n}\nmain()\n",
+            ),
+            words: RUN,
+            status: Status::Done,
+            out: "end 2\nend 1\n",
+            err: "",
+        },
+        Case {
+            text: Some(
+                b"struct A: ~Copyable {\n  let n: Int\n  deinit { print(\"end\", n) }\n}\nstruct B: ~Copyable {\n  let n: Int\n  deinit { print(\"bye\", n) }\n}\nfunc main() {\n  let a = 3\n  let b = a\n  let x = A(n: a + b)\n  _ = consume x\n  print(b)\n}\nmain()\n",
+            ),
+            words: RUN,
+            status: Status::Done,
+            out: "end 6\n3\n",
+            err: "",
+        },
+        Case {
+            text: Some(
+                b"struct A: ~Copyable {\n  let n: Int\n  deinit { print(\"end\", n) }\n}\nfunc main() {\n  let x = A(n: 1)\n  print(x.n)\n  print(9223372036854775807 + x.n)\n}\nmain()\n",
+            ),
+            words: RUN,
+            status: Status::Trapped,
+            out: "1\n",
+            err: "a.swift:8:29: trap 1: arithmetic overflow\n",
+        },
+    ];
+    for case in &cases {
+        answers(&rt, case, NONE)?;
+    }
+    Ok(())
+}
+
+#[test]
 fn faults_of_the_outside_are_told(rt: HostRuntime) -> Result<(), Fail> {
     let text: Option<&[u8]> = Some(b"func main() { print(1)\nprint(2) }\nmain()");
     let unread = Case {

@@ -48,7 +48,7 @@ fn trap_text(code: u32) -> &'static str
 }
 
 /// The place of an offset, which may lie past the end of the text.
-fn place_in(text: &[u8], at: u32) -> LineColumn
+pub(crate) fn place_in(text: &[u8], at: u32) -> LineColumn
     requires { length text.now ≤ 1048576 }
     ensures { result ≡ place_at text.now at }
 {

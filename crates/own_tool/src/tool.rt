@@ -2,25 +2,27 @@
 
 ghost use Rattle.std.specs.Prelude.{◌≡◌, ◌≢◌, ℕ, ◌≤◌, ◌<◌, ◌⊎◌, List, [], length, map, string_bytes, Some, None, IfOk, OnErr, Ok, Err};
 ghost use Rattle.own_io.specs.Outside.{told_after, HasRisen};
-ghost use Rattle.own_tool.specs.Judged.{answer_of, answer_of_ending, line_of, line_of_ending, ending_of, IsShort, TextEndsAs, FileIsJudged};
+ghost use Rattle.own_tool.specs.Judged.{answer_of, answer_of_ending, line_of, line_of_ending, ending_of, IsShort, TextEndsAs, TextComesTo, FileIsJudged};
 ghost use Rattle.own_tool.specs.Words.{file_to_run};
 ghost use Rattle.own_tool.specs.Headline.{Answers};
 ghost use Rattle.own_tool.specs.Saying.{Said, IsConcluded};
-ghost use Rattle.own_tool.specs.Form.{IsFirstForm};
+ghost use Rattle.own_tool.specs.SecondForm.{IsSecondForm};
 ghost use Rattle.own_tree.specs.View.{tree_view};
+ghost use Rattle.own_meaning.specs.Findings.{IsSound};
 ghost use Rattle.wasm_form.specs.Within.{IsWithin};
 ghost use Rattle.wasm_form.specs.Steps.{machine_run};
 ghost use Rattle.wasm_run.specs.Runs.{RanAs};
 
-use crate::form::read_form;
+use crate::findings::{finding_lines, findings};
 use crate::judged::{Ending, Judged};
 use crate::lower::lower;
+use crate::second_form::read_form;
 use crate::texts::{not_built_line, read_line, steps_line, too_long_line, trap_line};
 use crate::words::file_to_run;
 use own_io::{Folder, LoadError, Sink, send};
-use own_tree::Status;
 use own_tree::limits::MOST_TEXT_BYTES;
 use own_tree::tree::Tree;
+use own_tree::{Bytes, Row, Status};
 use std::alloc::{AllocError, Global};
 use wasm_form::Module;
 use wasm_run::{Machine, Ran};
@@ -52,8 +54,16 @@ fn answer_of(judged: &Judged) -> Status
     match judged {
         Judged::ReadFault => Status::ReadFault,
         Judged::TooLong => Status::Refused,
+        Judged::Found(_) => Status::Refused,
         Judged::Ran(_, ending) => answer_of_ending(*ending),
     }
+}
+
+/// The bytes of a line.
+fn bytes_of(alloc: Global, line: String) -> Result<Bytes, AllocError>
+    ensures { IfOk result (λ bytes. bytes ≡ string_bytes line) }
+{
+    Bytes::from_slice(alloc, line.as_bytes())
 }
 
 /// The line of what a text came to.
@@ -62,29 +72,30 @@ fn line_of_ending(
     file: &str,
     text: &[u8],
     ending: Ending,
-) -> Result<String, AllocError>
+) -> Result<Bytes, AllocError>
     requires { length text.now ≤ 1048576 }
-    ensures line { IfOk result (λ line. string_bytes line ≡ line_of_ending file.now text.now ending) }
+    ensures line { IfOk result (λ line. line ≡ line_of_ending file.now text.now ending) }
     ensures whole { OnErr result (answer_of_ending ending ≢ Status.WriteFault) }
 {
     match ending {
-        Ending::NotBuilt => not_built_line(alloc, file),
-        Ending::Done => Ok(String::new(alloc)),
-        Ending::Trapped { code, at } => trap_line(alloc, file, text, code, at),
-        Ending::OutOfSteps => steps_line(alloc),
-        Ending::SinkFault => Ok(String::new(alloc)),
+        Ending::NotBuilt => bytes_of(alloc, not_built_line(alloc, file)?),
+        Ending::Done => Ok(Row::new(alloc)),
+        Ending::Trapped { code, at } => bytes_of(alloc, trap_line(alloc, file, text, code, at)?),
+        Ending::OutOfSteps => bytes_of(alloc, steps_line(alloc)?),
+        Ending::SinkFault => Ok(Row::new(alloc)),
     }
 }
 
 /// The line of what a file came to. After a failed write there is none, and it takes no memory.
-fn line_of(alloc: Global, file: &str, judged: &Judged) -> Result<String, AllocError>
+fn line_of(alloc: Global, file: &str, judged: &Judged) -> Result<Bytes, AllocError>
     requires { IsShort judged.now }
-    ensures line { IfOk result (λ line. string_bytes line ≡ line_of file.now judged.now) }
+    ensures line { IfOk result (λ line. line ≡ line_of file.now judged.now) }
     ensures whole { OnErr result (answer_of judged.now ≢ Status.WriteFault) }
 {
     match judged {
-        Judged::ReadFault => read_line(alloc, file),
-        Judged::TooLong => too_long_line(alloc, file),
+        Judged::ReadFault => bytes_of(alloc, read_line(alloc, file)?),
+        Judged::TooLong => bytes_of(alloc, too_long_line(alloc, file)?),
+        Judged::Found(lines) => Bytes::from_slice(alloc, lines.as_slice()),
         Judged::Ran(text, ending) => line_of_ending(alloc, file, text.as_slice(), *ending),
     }
 }
@@ -112,14 +123,14 @@ fn run_module<K: Sink>(alloc: Global, code: &Module, out: &mut K) -> Result<Ran,
     Ok(machine.run(DEFAULT_STEPS, out))
 }
 
-/// Runs the tree of a text.
+/// Runs the tree of a text that breaks no rule.
 fn run_tree<K: Sink>(
     alloc: Global,
     text: &[u8],
     tree: &Tree,
     out: &mut K,
 ) -> Result<Ending, AllocError>
-    requires { IsFirstForm text.now (tree_view tree.now) }
+    requires { IsSecondForm text.now (tree_view tree.now) × IsSound (tree_view tree.now) }
     ensures count { K.faults out.old ≤ K.faults out.new }
     ensures ran { TextEndsAs text.now result (K.written out.old) (K.written out.new) (HasRisen (K.faults out.old) (K.faults out.new)) }
 {
@@ -128,15 +139,50 @@ fn run_tree<K: Sink>(
     Ok(ending_of(ran))
 }
 
-/// Runs a text, if it is in the form that is built.
-fn run_text<K: Sink>(alloc: Global, text: &[u8], out: &mut K) -> Result<Ending, AllocError>
-    requires { length text.now ≤ 1048576 }
+/// Says what rules the tree of a text breaks, or runs it.
+fn judge_tree<K: Sink>(
+    alloc: Global,
+    file: &str,
+    text: Bytes,
+    tree: &Tree,
+    out: &mut K,
+) -> Result<Judged, AllocError>
+    requires { IsSecondForm text (tree_view tree.now) × (length text ≤ 1048576) }
     ensures count { K.faults out.old ≤ K.faults out.new }
-    ensures ran { TextEndsAs text.now result (K.written out.old) (K.written out.new) (HasRisen (K.faults out.old) (K.faults out.new)) }
+    ensures short { IfOk result IsShort }
+    ensures judged { TextComesTo file.now text result (K.written out.old) (K.written out.new) (HasRisen (K.faults out.old) (K.faults out.new)) }
 {
-    match read_form(alloc, text)? {
-        Some(tree) => run_tree(alloc, text, &tree, out),
-        None => Ok(Ending::NotBuilt),
+    let found = findings(alloc, tree)?;
+    if found.findings.is_empty() {
+        let ending = run_tree(alloc, text.as_slice(), tree, out)?;
+        Ok(Judged::Ran(text, ending))
+    } else {
+        let lines = finding_lines(
+            alloc,
+            file,
+            text.as_slice(),
+            found.names.as_slice(),
+            found.findings.as_slice(),
+        )?;
+        Ok(Judged::Found(lines))
+    }
+}
+
+/// Says what a text comes to: it is in no form that is built, it breaks rules, or it runs.
+fn judge_text<K: Sink>(
+    alloc: Global,
+    file: &str,
+    text: Bytes,
+    out: &mut K,
+) -> Result<Judged, AllocError>
+    requires { length text ≤ 1048576 }
+    ensures count { K.faults out.old ≤ K.faults out.new }
+    ensures short { IfOk result IsShort }
+    ensures judged { TextComesTo file.now text result (K.written out.old) (K.written out.new) (HasRisen (K.faults out.old) (K.faults out.new)) }
+{
+    match read_form(alloc, text.as_slice())? {
+        Some(tree) => judge_tree(alloc, file, text, &tree, out),
+        None => Ok(Judged::Ran(text, Ending::NotBuilt)),
     }
 }
 
@@ -166,10 +212,7 @@ fn judge<F: Folder, K: Sink>(
         file.now result (K.written out.old) (K.written out.new) (HasRisen (K.faults out.old) (K.faults out.new)) }
 {
     match folder.load(file, MOST_TEXT_BYTES) {
-        Ok(text) => {
-            let ending = run_text(alloc, text.as_slice(), out)?;
-            Ok(Judged::Ran(text, ending))
-        }
+        Ok(text) => judge_text(alloc, file, text, out),
         Err(LoadError::Failed) => Ok(Judged::ReadFault),
         Err(LoadError::TooLong { .. }) => Ok(Judged::TooLong),
         Err(LoadError::Memory) => Err(AllocError),
@@ -183,7 +226,7 @@ fn conclude<E: Sink>(alloc: Global, file: &str, judged: &Judged, err: &mut E) ->
     ensures said { IsConcluded file.now judged.now result (E.written err.old) (E.written err.new) (HasRisen (E.faults err.old) (E.faults err.new)) }
 {
     match line_of(alloc, file, judged) {
-        Ok(line) => say(err, line.as_bytes(), answer_of(judged)),
+        Ok(line) => say(err, line.as_slice(), answer_of(judged)),
         Err(_) => say(err, MEMORY_LINE, Status::Memory),
     }
 }

@@ -16,6 +16,7 @@ use own_tree::{Bytes, Span};
 pub(crate) enum Kind {
     Blank,
     Digit,
+    Letter,
     NameByte,
 }
 
@@ -63,6 +64,7 @@ fn is_in(kind: Kind, byte: u8) -> bool
     match kind {
         Kind::Blank => byte == b' ' || byte == b'\n',
         Kind::Digit => byte.is_ascii_digit(),
+        Kind::Letter => byte.is_ascii_alphabetic(),
         Kind::NameByte => byte.is_ascii_alphanumeric(),
     }
 }

@@ -14,12 +14,12 @@ use own_tree::{Bytes, Row};
 use std::alloc::{AllocError, Global};
 
 /// The most digits of a number.
-const MOST_DIGITS: usize = 19;
+pub(crate) const MOST_DIGITS: usize = 19;
 /// The largest number.
 const MOST_NUMBER: u64 = 9_223_372_036_854_775_807;
 
 /// The words that begin with a lower-case letter and are no names, and the functions that are known.
-const RESERVED: [&[u8]; 59] = [
+pub(crate) const RESERVED: [&[u8]; 59] = [
     b"func",
     b"struct",
     b"enum",
@@ -81,7 +81,7 @@ const RESERVED: [&[u8]; 59] = [
     b"readInt",
 ];
 
-fn is_listed(mut words: &[&[u8]], word: &[u8]) -> bool
+pub(crate) fn is_listed(mut words: &[&[u8]], word: &[u8]) -> bool
     ensures { result ≡ spec.is_among word.now (map (λ w. w.now) words.entry.now) }
 {
     while let [listed, others @ ..] = words {
@@ -100,7 +100,7 @@ fn is_reserved(word: &[u8]) -> bool
     is_listed(&RESERVED, word)
 }
 
-fn begins_lower(word: &[u8]) -> bool
+pub(crate) fn begins_lower(word: &[u8]) -> bool
     ensures { result ≡ spec.begins_lower word.now }
 {
     match word {
@@ -123,7 +123,7 @@ pub(crate) fn is_in_scope(names: &[Bytes], word: &[u8]) -> bool
 }
 
 /// What digits stand for, unless that is too much.
-fn value_of(digits: &[u8]) -> Option<u64>
+pub(crate) fn value_of(digits: &[u8]) -> Option<u64>
     ensures { result ≡ if nat_lt (spec.value_of digits.now) (2 ^ 63) then Some (spec.value_of digits.now) else None }
 {
     let mut value = 0u64;

@@ -1,0 +1,16 @@
+pub mod Examples
+pub mod MoreTurns
+pub mod Fates
+pub mod Matching
+pub mod Accepted
+pub mod Mains
+pub mod Runs
+pub mod Members
+pub mod Orders
+pub mod Straight
+pub mod OpFindings
+pub mod Broken
+pub mod Marked
+pub mod Segments
+pub mod Checked
+pub mod Laws
