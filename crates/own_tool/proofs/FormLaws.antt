@@ -1,21 +1,9 @@
--- What the answer of reading says of the trees of a text.
-use Rattle.std.proofs.Common.{◌≡◌, ℕ, ◌^◌, ◌<◌, Bool, true, false, ◌&&◌, List, length, Option, Some, None, sym, ◌∙◌}
+-- What is known of a number that is read.
+use Rattle.std.proofs.Common.{◌≡◌, ℕ, ◌^◌, ◌<◌, Bool, true, false, ◌&&◌, length}
 use Rattle.std.specs.Prelude.{nat_le, nat_lt}
 use Rattle.std.specs.Char.{is_ascii_digit}
 use Rattle.std.proofs.lemmas.Bool.{ltb-true}
-use Rattle.own_tree.specs.Source.{File}
-use Rattle.own_tool.specs.Form.{Text, run, value_of, SpellsNumber, IsFirstForm}
-use Rattle.own_tool.specs.FormReading.{form_at}
-use Rattle.own_tool.proofs.FormFacts.{some_is}
-use Rattle.own_tool.proofs.FormComplete.{form_again}
-
--- a text in the form has one tree
-pub one_tree : (bytes : List ℕ) (read : File) → form_at bytes ≡ Some read → (file : File) → IsFirstForm bytes file → file ≡ read
-one_tree bytes read e file is = some_is file read (sym (form_again bytes file is) ∙ e)
-
--- a text of which nothing is read is not in the form
-pub no_tree : (bytes : List ℕ) → form_at bytes ≡ None → (file : File) → IsFirstForm bytes file → ⊥
-no_tree bytes e file is = let no : ◌≡◌ {A = Option File} (Some file) None = sym (form_again bytes file is) ∙ e in absurd cc
+use Rattle.own_tool.specs.Form.{Text, run, value_of, SpellsNumber}
 
 last_true : (a b c : Bool) → (a && b && c) ≡ true → c ≡ true
 last_true true true c e = e

@@ -2,7 +2,6 @@ pub mod FindingSteps
 pub mod FormComplete
 pub mod FormFacts
 pub mod FormLaws
-pub mod FormLoops
 pub mod FormNumbers
 pub mod FormSound
 pub mod Judging

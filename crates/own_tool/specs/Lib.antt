@@ -2,7 +2,6 @@ pub mod Form
 pub mod FormReading
 pub mod SecondForm
 pub mod SecondFormReading
-pub mod Run
 pub mod Lower
 pub mod Words
 pub mod Texts

@@ -257,7 +257,8 @@ fn run_file<F: Folder, K: Sink, E: Sink>(
 /// Does what the words of the command line say: `run FILE` runs the text that the folder holds under FILE.
 ///
 /// The output of the run goes to `out`, and what is said of the call to `err`. A text is run where it has at
-/// most 1,048,576 bytes and is in the first form; each other one is refused.
+/// most 1,048,576 bytes and is in the second form and breaks no rule of
+/// ownership; each other one is refused, by `not built yet` or by the lines of its findings.
 pub fn swiftown<F: Folder, K: Sink, E: Sink>(
     alloc: Global,
     words: &[String],
