@@ -1,0 +1,2 @@
+//! What types are made of, and the rules of ownership.
+#![tactic(auto)]
