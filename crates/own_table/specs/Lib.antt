@@ -1,2 +1,3 @@
+pub mod Types
 pub mod Places
 pub mod Traces
