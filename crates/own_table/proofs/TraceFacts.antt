@@ -1,8 +1,6 @@
 -- Laws of traces.
 use Rattle.std.proofs.Common.{◌≡◌, ℕ, zero, suc, ◌≤◌, List, [], ◌∷◌, ◌++◌, refl, sym, ap, ◌∙◌, subst, arith, append_assoc}
-use Rattle.std.specs.Prelude.{◌⊎◌, ◌≢◌}
 use mathlib.Core.Logic.{inl, inr}
-use Rattle.own_tree.specs.declared.span.Span.{Span}
 use Rattle.own_tree.specs.declared.op.Op.{Op}
 use Rattle.own_tree.specs.OpSource.{Ops, op, nothing, next, either, loop, catch, scope, break_at, continue_at, return_at, halt}
 use Rattle.own_table.specs.Traces.{Completion, goes_on, breaks, continues, returns, halts, cut, Set, After, Joined, Broken, Turns, caught, IsTrace, ends_for}

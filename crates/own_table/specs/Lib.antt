@@ -1,3 +1,6 @@
 pub mod Types
+pub mod Within
+pub mod Captures
+pub mod Ops
 pub mod Places
 pub mod Traces
