@@ -3,5 +3,7 @@ pub mod Within
 pub mod Captures
 pub mod Ops
 pub mod Fixed
+pub mod Makers
+pub mod Findings
 pub mod Places
 pub mod Traces
