@@ -3,20 +3,12 @@ use Rattle.std.proofs.Common.{◌≡◌, ℕ, zero, suc, ◌≤◌, List, [], �
 use mathlib.Core.Logic.{inl, inr}
 use Rattle.own_tree.specs.declared.op.Op.{Op}
 use Rattle.own_tree.specs.OpSource.{Ops, op, nothing, next, either, loop, catch, scope, break_at, continue_at, return_at, halt}
+use Rattle.own_table.specs.Laws.{IsWhole}
 use Rattle.own_table.specs.Traces.{Completion, goes_on, breaks, continues, returns, halts, cut, Set, After, Joined, Broken, Turns, caught, IsTrace, ends_for}
-
--- a run that is not cut
-abbrev pub Whole : Completion → Type 0
-Whole goes_on = Unit {0}
-Whole (breaks s) = Unit {0}
-Whole (continues s) = Unit {0}
-Whole (returns s) = Unit {0}
-Whole halts = Unit {0}
-Whole cut = ⊥
 
 -- each trace of the one that is not cut is one of the other
 abbrev pub Within : Set → Set → Type 0
-Within A A' = (os : List Op) (c : Completion) → Whole c → A os c → A' os c
+Within A A' = (os : List Op) (c : Completion) → IsWhole c → A os c → A' os c
 
 module _ (A A' B B' : Set) (a : Within A A') (b : Within B B') where
   after_within : (how : Completion) → Within (After how B) (After how B')
@@ -36,21 +28,21 @@ module _ (A A' B B' : Set) (a : Within A A') (b : Within B B') where
   broken_within cut os c w t = t
 
 -- the first part of a whole trace is whole
-first_whole : (B : Set) (how c : Completion) (os : List Op) → Whole c → After how B os c → Whole how
+first_whole : (B : Set) (how c : Completion) (os : List Op) → IsWhole c → After how B os c → IsWhole how
 first_whole B goes_on c os w t = tt
 first_whole B (breaks s) c os w t = tt
 first_whole B (continues s) c os w t = tt
 first_whole B (returns s) c os w t = tt
 first_whole B halts c os w t = tt
-first_whole B cut c os w t = subst Whole t.1 w
+first_whole B cut c os w t = subst IsWhole t.1 w
 
-turn_whole : (B : Set) (how c : Completion) (os : List Op) → Whole c → Broken how B os c → Whole how
+turn_whole : (B : Set) (how c : Completion) (os : List Op) → IsWhole c → Broken how B os c → IsWhole how
 turn_whole B goes_on c os w t = tt
 turn_whole B (breaks s) c os w t = tt
 turn_whole B (continues s) c os w t = tt
 turn_whole B (returns s) c os w t = tt
 turn_whole B halts c os w t = tt
-turn_whole B cut c os w t = subst Whole t.1 w
+turn_whole B cut c os w t = subst IsWhole t.1 w
 
 next_within : (A A' B B' : Set) → Within A A' → Within B B' → Within (Joined A (λ how. After how B)) (Joined A' (λ how. After how B'))
 next_within A A' B B' a b os c w t =
@@ -61,12 +53,12 @@ turn_within A A' B B' a b os c w t =
     (t.0, t.1, t.2, a t.0 t.1 (turn_whole B t.1 c t.2 w t.4) t.3, broken_within A A' B B' a b t.1 t.2 c w t.4, t.5)
 
 pub turns_within : (A A' B B' : Set) → Within A A' → Within B B' → (j j' : ℕ) → j ≤ j' → Within (Turns A B j) (Turns A' B' j')
-turns_within A A' B B' a b zero j' le os c w t = absurd (subst Whole t.1 w)
+turns_within A A' B B' a b zero j' le os c w t = absurd (subst IsWhole t.1 w)
 turns_within A A' B B' a b (suc j) zero le os c w t = absurd (omega (arith, le))
 turns_within A A' B B' a b (suc j) (suc j') le os c w t =
     turn_within A A' _ _ a (turn_within B B' _ _ b (turns_within A A' B B' a b j j' (omega (arith, le)))) os c w t
 
-uncaught : (how : Completion) → Whole (caught how) → Whole how
+uncaught : (how : Completion) → IsWhole (caught how) → IsWhole how
 uncaught goes_on w = w
 uncaught (breaks s) w = tt
 uncaught (continues s) w = w
@@ -82,7 +74,7 @@ more_turns k k' le (next a b) os c w t = next_within _ _ _ _ (more_turns k k' le
 more_turns k k' le (either a b) os c w (inl t) = inl (more_turns k k' le a os c w t)
 more_turns k k' le (either a b) os c w (inr t) = inr (more_turns k k' le b os c w t)
 more_turns k k' le (loop a b) os c w t = turns_within _ _ _ _ (more_turns k k' le a) (more_turns k k' le b) k k' le os c w t
-more_turns k k' le (catch a) os c w t = (t.0, more_turns k k' le a os t.0 (uncaught t.0 (subst Whole t.2 w)) t.1, t.2)
+more_turns k k' le (catch a) os c w t = (t.0, more_turns k k' le a os t.0 (uncaught t.0 (subst IsWhole t.2 w)) t.1, t.2)
 more_turns k k' le (scope bs s a) os c w t = (t.0, more_turns k k' le a t.0 c w t.1, t.2)
 more_turns k k' le (break_at s) os c w t = t
 more_turns k k' le (continue_at s) os c w t = t
@@ -160,13 +152,13 @@ append_empty [] = refl
 append_empty (o ∷ os) = ap (λ l. o ∷ l) (append_empty os)
 
 -- the two ways in which a joined trace can be cut
-longer_joined : (A A' : Set) (B B' : Completion → Set) → Within A A' → Longer A A' → ((how : Completion) → Whole how → Longer (B how) (B' how)) → ((os : List Op) → B cut os cut → os ≡ []) → ((how : Completion) → Some_of (B' how)) → Longer (Joined A B) (Joined A' B')
+longer_joined : (A A' : Set) (B B' : Completion → Set) → Within A A' → Longer A A' → ((how : Completion) → IsWhole how → Longer (B how) (B' how)) → ((os : List Op) → B cut os cut → os ≡ []) → ((how : Completion) → Some_of (B' how)) → Longer (Joined A B) (Joined A' B')
 longer_joined A A' B B' within longer next_longer stops goes os t = go t.1 t.3 t.4
   where
     rest_of : (xs ys zs : List Op) → os ≡ xs ++ ys → os ++ zs ≡ xs ++ (ys ++ zs)
     rest_of xs ys zs e = ap (λ l. l ++ zs) e ∙ append_assoc xs ys zs
 
-    whole_first : (how : Completion) → Whole how → A t.0 how → B how t.2 cut → (zs : List Op) × (c : Completion) × Joined A' B' (os ++ zs) c
+    whole_first : (how : Completion) → IsWhole how → A t.0 how → B how t.2 cut → (zs : List Op) × (c : Completion) × Joined A' B' (os ++ zs) c
     whole_first how w ta tb =
         let r = next_longer how w t.2 tb in
         (r.0, r.1, (t.0, how, t.2 ++ r.0, within t.0 how w ta, r.2, rest_of t.0 t.2 r.0 t.5))
@@ -191,7 +183,7 @@ never : {A : Type 0} {c : Completion} → cut ≡ c → (IsCut c → ⊥) → A
 unfolding IsCut
 never e f = absurd (f (subst IsCut e tt))
 
-longer_after : (B B' : Set) → Longer B B' → (how : Completion) → Whole how → Longer (After how B) (After how B')
+longer_after : (B B' : Set) → Longer B B' → (how : Completion) → IsWhole how → Longer (After how B) (After how B')
 unfolding IsCut
 longer_after B B' l goes_on w os t = l os t
 longer_after B B' l (breaks s) w os t = never t.1 (λ x. x)
@@ -200,7 +192,7 @@ longer_after B B' l (returns s) w os t = never t.1 (λ x. x)
 longer_after B B' l halts w os t = never t.1 (λ x. x)
 longer_after B B' l cut w os t = absurd w
 
-longer_broken : (B B' : Set) → Longer B B' → (how : Completion) → Whole how → Longer (Broken how B) (Broken how B')
+longer_broken : (B B' : Set) → Longer B B' → (how : Completion) → IsWhole how → Longer (Broken how B) (Broken how B')
 unfolding IsCut
 longer_broken B B' l goes_on w os t = l os t
 longer_broken B B' l (continues s) w os t = l os t

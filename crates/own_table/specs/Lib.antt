@@ -5,5 +5,7 @@ pub mod Ops
 pub mod Fixed
 pub mod Makers
 pub mod Findings
+pub mod Facts
+pub mod Laws
 pub mod Places
 pub mod Traces

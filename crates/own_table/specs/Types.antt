@@ -158,6 +158,11 @@ abbrev pub passes_let : Shape → List ℕ → Bool
 passes_let s [] = false
 passes_let s (k ∷ ks) = is_let s k || passes_let (property_shape s k) ks
 
+-- the shape at the end of a way
+abbrev pub shape_in : Shape → List ℕ → Shape
+shape_in s [] = s
+shape_in s (k ∷ ks) = shape_in (property_shape s k) ks
+
 -- ---- the types of a text
 
 -- a stored property, and whether it is a `var`

@@ -1,0 +1,88 @@
+-- What is proved of these definitions, for contracts to cite.
+use Rattle.std.specs.Prelude.{◌≡◌, ℕ, ◌≤◌, ◌⊎◌, List, ◌++◌}
+use Rattle.own_tree.specs.declared.finding.Finding.{Finding}
+use Rattle.own_tree.specs.declared.graph.LeafFact.{LeafFact}
+use Rattle.own_tree.specs.declared.op.Op.{Op}
+use Rattle.own_tree.specs.declared.place.Place.{Place}
+use Rattle.own_tree.specs.OpSource.{Ops, next}
+use Rattle.own_tree.specs.TypedSource.{TBody, Program}
+use Rattle.own_table.specs.Facts.{IsFact}
+use Rattle.own_table.specs.Findings.{Precedes, IsSameBreak, IsBodyFinding, ArePathFindings, AreFixedFindings, AreFindings}
+use Rattle.own_table.specs.Makers.{BodyUses}
+use Rattle.own_table.specs.Places.{PlaceBefore}
+use Rattle.own_table.specs.Traces.{Completion, goes_on, breaks, continues, returns, halts, cut, IsTrace}
+use Rattle.own_table.specs.Types.{Types}
+
+-- ---- orders
+
+-- a strict order, in which two that are not in order are alike
+pub record IsOrder {A : Type 0} (Before Alike : A → A → Type 0) : Type 0 where
+  pub apart : (x : A) → Before x x → ⊥
+  pub onward : (x y z : A) → Before x y → Before y z → Before x z
+  pub total : (x y : A) → Before x y ⊎ Alike x y ⊎ Before y x
+
+abbrev pub PlacesAreOrdered : Type 0
+PlacesAreOrdered = IsOrder PlaceBefore (λ p q. p ≡ q)
+
+-- two findings that are not in order have one rule, one span and one place
+abbrev pub FindingsAreOrdered : Type 0
+FindingsAreOrdered = IsOrder Precedes IsSameBreak
+
+-- ---- findings
+
+-- what breaks one rule at one span and one place of a body has one cause
+abbrev pub FindingsHaveOneCause : Type 0
+FindingsHaveOneCause =
+    (types : Types) (program : Program) (k : ℕ) (body : TBody) (f g : Finding)
+    → IsBodyFinding types program k body f → IsBodyFinding types program k body g → IsSameBreak f g → f ≡ g
+
+-- a program has one list of findings
+abbrev pub FindingsAreOneList : Type 0
+FindingsAreOneList =
+    (types : Types) (program : Program) (fs gs : List Finding) → AreFindings types program fs → AreFindings types program gs
+    → fs ≡ gs
+
+-- so has a body, of the path rules and of the fixed rules
+abbrev pub PathFindingsAreOneList : Type 0
+PathFindingsAreOneList = (uses : BodyUses) (fs gs : List Finding) → ArePathFindings uses fs → ArePathFindings uses gs → fs ≡ gs
+
+abbrev pub FixedFindingsAreOneList : Type 0
+FixedFindingsAreOneList =
+    (types : Types) (program : Program) (k : ℕ) (body : TBody) (fs gs : List Finding)
+    → AreFixedFindings types program k body fs → AreFixedFindings types program k body gs → fs ≡ gs
+
+-- ---- facts
+
+-- a leaf has one fact before an op
+abbrev pub LeavesHaveOneFact : Type 0
+LeavesHaveOneFact = (uses : BodyUses) (o : Op) (leaf : Place) (f g : LeafFact) → IsFact uses o leaf f → IsFact uses o leaf g → f ≡ g
+
+-- ---- traces
+
+-- a run that is not cut
+abbrev pub IsWhole : Completion → Type 0
+IsWhole goes_on = Unit {0}
+IsWhole (breaks s) = Unit {0}
+IsWhole (continues s) = Unit {0}
+IsWhole (returns s) = Unit {0}
+IsWhole halts = Unit {0}
+IsWhole cut = ⊥
+
+-- with more turns each trace that is not cut stays one
+abbrev pub TracesStay : Type 0
+TracesStay = (j k : ℕ) → j ≤ k → (t : Ops) (os : List Op) (c : Completion) → IsWhole c → IsTrace j t os c → IsTrace k t os c
+
+-- and each that is cut goes on
+abbrev pub TracesGoOn : Type 0
+TracesGoOn =
+    (j k : ℕ) → j ≤ k → (t : Ops) (os : List Op) → IsTrace j t os cut
+    → (more : List Op) × (c : Completion) × IsTrace k t (os ++ more) c
+
+abbrev pub TracesExist : Type 0
+TracesExist = (k : ℕ) (t : Ops) → (os : List Op) × (c : Completion) × IsTrace k t os c
+
+-- a trace of two parts that goes on is one of each that goes on
+abbrev pub TracesSplit : Type 0
+TracesSplit =
+    (k : ℕ) (a b : Ops) (os : List Op) → IsTrace k (next a b) os goes_on
+    → (xs : List Op) × (ys : List Op) × IsTrace k a xs goes_on × IsTrace k b ys goes_on × (os ≡ xs ++ ys)
