@@ -1,3 +1,5 @@
 pub mod Members
 pub mod Orders
+pub mod Causes
 pub mod TraceFacts
+pub mod Proved

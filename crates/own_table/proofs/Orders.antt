@@ -1,11 +1,13 @@
 -- Places and findings have one order, and two lists of the same findings, each in order, are the same list.
 use Rattle.std.proofs.Common.{◌≡◌, ℕ, zero, suc, ◌<◌, ◌⊎◌, List, [], ◌∷◌, inl, inr, refl, sym, ap, ◌∙◌, subst, arith}
 use Rattle.own_tree.specs.declared.finding.Finding.{Finding}
+use Rattle.own_tree.specs.declared.finding.Rule.{Rule}
+use Rattle.own_tree.specs.declared.finding.Rule.TheVariants as rule
 use Rattle.own_tree.specs.declared.place.Place.{Place}
 use Rattle.own_tree.specs.declared.span.Span.{Span}
 use Rattle.own_table.specs.Places.{FieldsBefore, PlaceBefore}
 use Rattle.own_table.specs.Findings.{rule_number, SpanBefore, IsNotAfter, Precedes, Rising, IsSameBreak, AreAll}
-use Rattle.own_table.specs.Laws.{IsOrder, PlacesAreOrdered, FindingsAreOrdered, FindingsHaveOneCause}
+use Rattle.own_table.specs.Laws.{PlacesAreOrdered, FindingsAreOrdered}
 use Rattle.own_table.proofs.Members.{In, in_contains, contains_in}
 
 -- ---- before is strict
@@ -24,21 +26,21 @@ fields_on (k ∷ ks) (l ∷ ls) (m ∷ ms) (inl a) (inr b) = inl (omega (arith, 
 fields_on (k ∷ ks) (l ∷ ls) (m ∷ ms) (inr a) (inl b) = inl (omega (arith, a.0, b))
 fields_on (k ∷ ks) (l ∷ ls) (m ∷ ms) (inr a) (inr b) = inr (a.0 ∙ b.0, fields_on ks ls ms a.1 b.1)
 
-place_apart : (p : Place) → PlaceBefore p p → ⊥
+pub place_apart : (p : Place) → PlaceBefore p p → ⊥
 place_apart p (inl h) = omega (arith, h)
 place_apart p (inr h) = fields_apart p.fields h.1
 
-place_on : (p q r : Place) → PlaceBefore p q → PlaceBefore q r → PlaceBefore p r
+pub place_on : (p q r : Place) → PlaceBefore p q → PlaceBefore q r → PlaceBefore p r
 place_on p q r (inl a) (inl b) = inl (omega (arith, a, b))
 place_on p q r (inl a) (inr b) = inl (omega (arith, a, b.0))
 place_on p q r (inr a) (inl b) = inl (omega (arith, a.0, b))
 place_on p q r (inr a) (inr b) = inr (a.0 ∙ b.0, fields_on p.fields q.fields r.fields a.1 b.1)
 
-span_apart : (s : Span) → SpanBefore s s → ⊥
+pub span_apart : (s : Span) → SpanBefore s s → ⊥
 span_apart s (inl h) = omega (arith, h)
 span_apart s (inr h) = omega (arith, h.1)
 
-span_on : (s t u : Span) → SpanBefore s t → SpanBefore t u → SpanBefore s u
+pub span_on : (s t u : Span) → SpanBefore s t → SpanBefore t u → SpanBefore s u
 span_on s t u (inl a) (inl b) = inl (omega (arith, a, b))
 span_on s t u (inl a) (inr b) = inl (omega (arith, a, b.0))
 span_on s t u (inr a) (inl b) = inl (omega (arith, a.0, b))
@@ -162,6 +164,62 @@ spans a b = elim (numbers a.start b.start) [
 
 pub places_are_ordered : PlacesAreOrdered
 places_are_ordered = record { apart = place_apart; onward = place_on; total = places }
+
+rule_of : ℕ → Rule
+rule_of zero = rule.O1
+rule_of (suc zero) = rule.O2
+rule_of (suc (suc zero)) = rule.O3
+rule_of (suc (suc (suc zero))) = rule.O4
+rule_of (suc (suc (suc (suc zero)))) = rule.O5
+rule_of (suc (suc (suc (suc (suc zero))))) = rule.O6
+rule_of (suc (suc (suc (suc (suc (suc zero)))))) = rule.O7
+rule_of (suc (suc (suc (suc (suc (suc (suc zero))))))) = rule.O8
+rule_of (suc (suc (suc (suc (suc (suc (suc (suc zero)))))))) = rule.O9
+rule_of (suc (suc (suc (suc (suc (suc (suc (suc (suc zero))))))))) = rule.O10
+rule_of (suc (suc (suc (suc (suc (suc (suc (suc (suc (suc zero)))))))))) = rule.O11
+rule_of (suc (suc (suc (suc (suc (suc (suc (suc (suc (suc (suc n))))))))))) = rule.F1
+
+rule_back : (r : Rule) → rule_of (rule_number r) ≡ r
+unfolding rule_of
+rule_back rule.O1 = refl
+rule_back rule.O2 = refl
+rule_back rule.O3 = refl
+rule_back rule.O4 = refl
+rule_back rule.O5 = refl
+rule_back rule.O6 = refl
+rule_back rule.O7 = refl
+rule_back rule.O8 = refl
+rule_back rule.O9 = refl
+rule_back rule.O10 = refl
+rule_back rule.O11 = refl
+rule_back rule.F1 = refl
+
+same_rule : (r s : Rule) → rule_number r ≡ rule_number s → r ≡ s
+same_rule r s e = sym (rule_back r) ∙ ap rule_of e ∙ rule_back s
+
+findings : (f g : Finding) → Precedes f g ⊎ IsSameBreak f g ⊎ Precedes g f
+findings f g = elim (spans f.span g.span) [
+  | inl before ↦ inl (inl before)
+  | inr (inr after) ↦ inr (inr (inl after))
+  | inr (inl span) ↦ elim (numbers (rule_number f.rule) (rule_number g.rule)) [
+    | inl less ↦ inl (inr (span, inl less))
+    | inr (inr more) ↦ inr (inr (inr (sym span, inl more)))
+    | inr (inl number) ↦ elim (places f.place g.place) [
+      | inl before ↦ inl (inr (span, inr (same_rule f.rule g.rule number, before)))
+      | inr (inl place) ↦ inr (inl (same_rule f.rule g.rule number, span, place))
+      | inr (inr after) ↦ inr (inr (inr (sym span, inr (sym (same_rule f.rule g.rule number), after))))
+    ]
+  ]
+]
+
+pub findings_are_ordered : FindingsAreOrdered
+findings_are_ordered = record { apart = precedes_apart; onward = precedes_on; total = findings }
+
+-- two spans none of which is after the other
+pub neither_after : (a b : Span) → IsNotAfter a b → IsNotAfter b a → a ≡ b
+neither_after a b (inl same) after = same
+neither_after a b (inr before) (inl same) = sym same
+neither_after a b (inr before) (inr after) = absurd (span_apart a (span_on a b a before after))
 
 -- All findings of a kind stand in one list.
 pub one_list : (Is : Finding → Type 0) (fs gs : List Finding) → AreAll Is fs → AreAll Is gs → fs ≡ gs

@@ -1,5 +1,5 @@
 -- Whether a leaf has a value before an op: on all ways, on some, or on none.
-use Rattle.std.specs.Prelude.{◌≡◌, ℕ, ◌⊎◌, Bool, true, false, ◌==◌, if◌then◌else◌, IsTrue, Contains, List, slice_get, Option, Some, None}
+use Rattle.std.specs.Prelude.{◌≡◌, ℕ, ◌⊎◌, Bool, true, false, ◌==◌, IsTrue, Contains, List, slice_get, Option, Some, None}
 use Rattle.own_tree.specs.declared.graph.LeafFact.{LeafFact}
 use Rattle.own_tree.specs.declared.graph.LeafFact.TheVariants as fact
 use Rattle.own_tree.specs.declared.op.Op.{Op}

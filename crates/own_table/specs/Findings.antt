@@ -1,5 +1,5 @@
 -- What breaks a rule, and the findings of a program.
-use Rattle.std.specs.Prelude.{◌≡◌, ℕ, ◌<◌, ◌≤◌, ◌⊎◌, ◌↔◌, Bool, true, false, IsTrue, Contains, List, [], ◌∷◌, ◌++◌, slice_get, Option, Some, None}
+use Rattle.std.specs.Prelude.{◌≡◌, ℕ, ◌<◌, ◌⊎◌, ◌↔◌, IsTrue, Contains, List, [], ◌∷◌, ◌++◌, slice_get, Option, Some}
 use Rattle.own_tree.specs.declared.finding.Finding.{Finding}
 use Rattle.own_tree.specs.declared.finding.Rule.{Rule}
 use Rattle.own_tree.specs.declared.finding.Rule.TheVariants as rule
@@ -12,7 +12,7 @@ use Rattle.own_tree.specs.declared.place.Place.{Place}
 use Rattle.own_tree.specs.declared.span.Span.{Span}
 use Rattle.own_tree.specs.TypedSource.{TBody, Program}
 use Rattle.own_table.specs.Fixed.{fixed_breaks}
-use Rattle.own_table.specs.Makers.{needs, Mark, fresh, made, ended, bare, BodyUses, tree_of, maker, uses_of}
+use Rattle.own_table.specs.Makers.{needs, Mark, made, ended, bare, BodyUses, tree_of, maker, uses_of}
 use Rattle.own_table.specs.Places.{whole, covers, PlaceBefore}
 use Rattle.own_table.specs.Traces.{Completion, goes_on, returns, IsTrace}
 use Rattle.own_table.specs.Types.{Types}
@@ -69,6 +69,10 @@ IsGivenUp kind.End = ⊥
 -- what the caller has back when the body returns
 abbrev pub IsGivenBack : Option Mode → Type 0
 IsGivenBack m = (m ≡ Some mode.Inout) ⊎ (m ≡ Some mode.SelfMutating)
+
+-- of all leaves at a return the one with the cause of least position, and among equals the first leaf
+abbrev pub IsFirstLeaf : Finding → Place → Span → Type 0
+IsFirstLeaf f leaf cause = SpanBefore f.cause cause ⊎ ((f.cause ≡ cause) × ((f.place ≡ leaf) ⊎ PlaceBefore f.place leaf))
 
 -- ---- O1, O2, O4 and O6: an op, and a leaf with its maker before the op
 
@@ -156,10 +160,6 @@ module _ (uses : BodyUses) where
   pub record IsLeastCause (f : Finding) : Type 0 where
     pub breaks : BreaksAtOp f.rule f.span f.place f.cause
     pub least : (cause : Span) → BreaksAtOp f.rule f.span f.place cause → IsNotAfter f.cause cause
-
-  -- of all leaves at a return the one with the cause of least position, and among equals the first leaf
-  abbrev pub IsFirstLeaf : Finding → Place → Span → Type 0
-  IsFirstLeaf f leaf cause = SpanBefore f.cause cause ⊎ ((f.cause ≡ cause) × ((f.place ≡ leaf) ⊎ PlaceBefore f.place leaf))
 
   pub record IsLeastLeaf (f : Finding) : Type 0 where
     pub breaks : BreaksAtReturn f.rule f.span f.place f.cause

@@ -17,10 +17,10 @@ use Rattle.own_tree.specs.declared.typed.Passing.{Passing}
 use Rattle.own_tree.specs.declared.typed.Passing.TheVariants as passing
 use Rattle.own_tree.specs.declared.typed.TypedPath.{TypedPath}
 use Rattle.own_tree.specs.OpSource.{Ops, op, nothing, next, either, loop, catch, scope, break_at, continue_at, return_at, halt, in_order}
-use Rattle.own_tree.specs.TypedSource.{TExp, number, text, truth, path, parenthesized, consumed, negated, inverted, arithmetic, wrapping, compared, logic, choice, member, call, address, closure, function, TExps, no_exps, exp, TStm, let_in, declare, ignore, assign, update, discard_self, if_then, if_else, else_if, loop_while, loop_repeat, loop_for, switch, leave, go_on, return_none, return_value, evaluate, TClauses, TBlk, TBody, Program}
+use Rattle.own_tree.specs.TypedSource.{TExp, number, text, truth, path, parenthesized, consumed, negated, inverted, arithmetic, wrapping, compared, logic, choice, member, call, address, closure, function, TExps, no_exps, exp, TStm, switch, TClauses, TBody, Program}
 use Rattle.own_table.specs.Captures.{Captured, captures, first_passing, other_passings}
-use Rattle.own_table.specs.Ops.{Use, use_by, as_value, opening, is_copyable, exp_ops, clauses_ops, body_ops}
-use Rattle.own_table.specs.Places.{whole, covers, overlaps, is_strictly_above}
+use Rattle.own_table.specs.Ops.{use_by, opening, is_copyable, exp_ops, clauses_ops, body_ops}
+use Rattle.own_table.specs.Places.{whole, overlaps, is_strictly_above}
 use Rattle.own_table.specs.Types.{Types, leaves, opened_leaves, passes_let}
 use Rattle.own_table.specs.Within.{exps_in, exps_in_block, exps_in_clauses, stms_in_block, literals, path_of}
 
@@ -261,6 +261,26 @@ abbrev pub all_conflicts : List Access → List Access → List Finding
 all_conflicts earlier [] = []
 all_conflicts earlier (later ∷ rest) = conflicts_with earlier later ++ all_conflicts earlier rest
 
+-- ---- changes to the subject of a `switch` that borrows it, for O11
+
+-- an op that changes its place or ends it
+abbrev pub is_change : OpKind → Bool
+is_change k = is_assign k || is_inout k || is_consume k || is_discard k
+
+abbrev pub changes_subject : TypedPath → List Op → List Finding
+changes_subject subject [] = []
+changes_subject subject (o ∷ os) =
+    if_so (is_change o.kind && overlaps o.place subject.place) (broken rule.O11 o.span o.place subject.at.span)
+    ++ changes_subject subject os
+
+abbrev pub accesses_change_subject : TypedPath → List Access → List Finding
+accesses_change_subject subject [] = []
+accesses_change_subject subject (a ∷ as') =
+    if_so (overlaps a.place subject.place) (broken rule.O11 a.span a.place subject.at.span)
+    ++ accesses_change_subject subject as'
+
+-- ---- calls, and clauses of a `switch`
+
 module _ (types : Types) (program : Program) where
   -- a path that is passed holds its place, borrowed or to be changed
   abbrev pub held_path : Passing → TypedPath → List Access
@@ -310,25 +330,6 @@ module _ (types : Types) (program : Program) where
   calls_break [] = []
   calls_break (call at to es passings ∷ rest) = args_break [] es passings ++ calls_break rest
   calls_break (e ∷ rest) = calls_break rest
-
-  -- ---- O11
-
-  -- an op that changes its place or ends it
-  abbrev pub is_change : OpKind → Bool
-  is_change k = is_assign k || is_inout k || is_consume k || is_discard k
-
-  -- what ops do to the subject of a `switch` that borrows it
-  abbrev pub changes_subject : TypedPath → List Op → List Finding
-  changes_subject subject [] = []
-  changes_subject subject (o ∷ os) =
-      if_so (is_change o.kind && overlaps o.place subject.place) (broken rule.O11 o.span o.place subject.at.span)
-      ++ changes_subject subject os
-
-  abbrev pub accesses_change_subject : TypedPath → List Access → List Finding
-  accesses_change_subject subject [] = []
-  accesses_change_subject subject (a ∷ as') =
-      if_so (overlaps a.place subject.place) (broken rule.O11 a.span a.place subject.at.span)
-      ++ accesses_change_subject subject as'
 
   abbrev pub clauses_break : TypedPath → List Op → TClauses → List Finding
   clauses_break subject os cs =

@@ -213,8 +213,8 @@ module _ (types : Types) (program : Program) where
       let owned = map suc names in
       clause_tree (map (make at) names) (Some (exp_ops guard as_value))
       (
-        if binds_twice subject then scope_of (owned ++ locals ss) (closing at.span) (map (make at) owned ++ body)
-        else scope_of (names ++ locals ss) (closing at.span) body
+      if binds_twice subject then scope_of (owned ++ locals ss) (closing at.span) (map (make at) owned ++ body)
+      else scope_of (names ++ locals ss) (closing at.span) body
       ) span
 
   abbrev mutual

@@ -1,2 +1,11 @@
-//! What types are made of, and the rules of ownership.
+//! What types are made of, what the body of a text does to places, and the rules of ownership that this
+//! may break. The definitions stand in `specs/`; the functions here name what is proved of them.
 #![tactic(auto)]
+
+pub mod laws;
+
+pub use laws::{
+    findings_are_one_list, findings_are_ordered, findings_have_one_cause,
+    fixed_findings_are_one_list, leaves_have_one_fact, path_findings_are_one_list,
+    places_are_ordered, traces_exist, traces_go_on, traces_split, traces_stay,
+};
