@@ -70,6 +70,27 @@ IsGivenUp kind.End = ⊥
 abbrev pub IsGivenBack : Option Mode → Type 0
 IsGivenBack m = (m ≡ Some mode.Inout) ⊎ (m ≡ Some mode.SelfMutating)
 
+-- ---- leaves at a return
+
+-- not live, by this op
+abbrev pub IsWithoutValue : Mark → Op → Type 0
+IsWithoutValue m by = (m ≡ ended by) ⊎ (m ≡ bare by)
+
+-- O3 speaks of what the caller has back, and O5 of what `init` gives out.
+abbrev pub ReturnBreaks : Rule → Option Mode → Type 0
+ReturnBreaks rule.O3 m = IsGivenBack m
+ReturnBreaks rule.O5 m = m ≡ Some mode.SelfInit
+ReturnBreaks rule.O1 m = ⊥
+ReturnBreaks rule.O2 m = ⊥
+ReturnBreaks rule.O4 m = ⊥
+ReturnBreaks rule.O6 m = ⊥
+ReturnBreaks rule.O7 m = ⊥
+ReturnBreaks rule.O8 m = ⊥
+ReturnBreaks rule.O9 m = ⊥
+ReturnBreaks rule.O10 m = ⊥
+ReturnBreaks rule.O11 m = ⊥
+ReturnBreaks rule.F1 m = ⊥
+
 -- of all leaves at a return the one with the cause of least position, and among equals the first leaf
 abbrev pub IsFirstLeaf : Finding → Place → Span → Type 0
 IsFirstLeaf f leaf cause = SpanBefore f.cause cause ⊎ ((f.cause ≡ cause) × ((f.place ≡ leaf) ⊎ PlaceBefore f.place leaf))
@@ -121,24 +142,6 @@ module _ (uses : BodyUses) where
   -- some trace returns at this span after these ops
   abbrev pub Returns : List Op → Span → Type 0
   Returns os at = (k : ℕ) × IsTrace k (tree_of uses) os (returns at)
-
-  -- not live, by this op
-  abbrev pub IsWithoutValue : Mark → Op → Type 0
-  IsWithoutValue m by = (m ≡ ended by) ⊎ (m ≡ bare by)
-
-  abbrev pub ReturnBreaks : Rule → Option Mode → Type 0
-  ReturnBreaks rule.O3 m = IsGivenBack m
-  ReturnBreaks rule.O5 m = m ≡ Some mode.SelfInit
-  ReturnBreaks rule.O1 m = ⊥
-  ReturnBreaks rule.O2 m = ⊥
-  ReturnBreaks rule.O4 m = ⊥
-  ReturnBreaks rule.O6 m = ⊥
-  ReturnBreaks rule.O7 m = ⊥
-  ReturnBreaks rule.O8 m = ⊥
-  ReturnBreaks rule.O9 m = ⊥
-  ReturnBreaks rule.O10 m = ⊥
-  ReturnBreaks rule.O11 m = ⊥
-  ReturnBreaks rule.F1 m = ⊥
 
   pub record BreaksAtReturn (which : Rule) (at : Span) (leaf : Place) (cause : Span) : Type 0 where
     pub before : List Op
