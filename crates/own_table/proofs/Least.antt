@@ -55,7 +55,7 @@ both_true false b e = (e, absurd (subst (λ c. IsFalse c) e tt))
     IsFalse false = Unit {0}
     IsFalse true = ⊥
 
-covers_binding : (p q : Place) → IsTrue (covers p q) → p.binding ≡ q.binding
+pub covers_binding : (p q : Place) → IsTrue (covers p q) → p.binding ≡ q.binding
 covers_binding p q h = eqb-true p.binding q.binding (both_true (p.binding == q.binding) (is_prefix p.fields q.fields) h).0
 
 overlaps_binding : (p q : Place) → IsTrue (overlaps p q) → p.binding ≡ q.binding
@@ -108,7 +108,7 @@ abbrev pub LeastIn : Span → List Span → Type 0
 LeastIn s [] = Unit {0}
 LeastIn s (t ∷ ts) = IsNotAfter s t × LeastIn s ts
 
-least_in : (s : Span) (ts : List Span) → LeastIn s ts → (t : Span) → In ts t → IsNotAfter s t
+pub least_in : (s : Span) (ts : List Span) → LeastIn s ts → (t : Span) → In ts t → IsNotAfter s t
 least_in s [] l t h = absurd h
 least_in s (u ∷ ts) l t (inl e) = subst (λ v. IsNotAfter s v) e l.0
 least_in s (u ∷ ts) l t (inr h) = least_in s ts l.1 t h
@@ -163,32 +163,32 @@ module _ (uses : BodyUses) where
   found test x by cause f (inl h) t e c = subst (λ s. AreCauses test x s) c (in_spans test x (ops_in (tree_of uses)) by h t e)
   found test x by cause f (inr h) t e c = absurd (not_end by.kind test f t h.0)
 
-  O1_cause : (at : Span) (place : Place) (cause : Span) → BreaksAtOp uses rule.O1 at place cause → AreCauses gives_up place.binding cause
+  pub O1_cause : (at : Span) (place : Place) (cause : Span) → BreaksAtOp uses rule.O1 at place cause → AreCauses gives_up place.binding cause
   O1_cause at place cause b =
       let m : Origin (Stands (tree_of uses)) b.leaf (ended b.by) = subst (λ m. Origin (Stands (tree_of uses)) b.leaf m) b.breaks.1 (origin rule.O1 at place cause b) in
       found gives_up place.binding b.by cause refl m.0 (given_up b.by.kind b.breaks.2)
       (covers_binding b.by.place b.leaf m.1 ∙ needed_binding b.breaking.kind b.breaking.place b.leaf b.breaks.0 ∙ ap (λ (p : Place). p.binding) b.place_is) b.cause_is
 
-  O2_cause : (at : Span) (place : Place) (cause : Span) → BreaksAtOp uses rule.O2 at place cause → AreCauses declares place.binding cause
+  pub O2_cause : (at : Span) (place : Place) (cause : Span) → BreaksAtOp uses rule.O2 at place cause → AreCauses declares place.binding cause
   O2_cause at place cause b =
       let m : Origin (Stands (tree_of uses)) b.leaf (bare b.by) = subst (λ m. Origin (Stands (tree_of uses)) b.leaf m) b.breaks.1 (origin rule.O2 at place cause b) in
       found declares place.binding b.by cause refl m.0 (ap declares m.2)
       (covers_binding b.by.place b.leaf m.1 ∙ needed_binding b.breaking.kind b.breaking.place b.leaf b.breaks.0 ∙ ap (λ (p : Place). p.binding) b.place_is) b.cause_is
 
-  O4_cause : (at : Span) (place : Place) (cause : Span) → BreaksAtOp uses rule.O4 at place cause → AreCauses makes place.binding cause
+  pub O4_cause : (at : Span) (place : Place) (cause : Span) → BreaksAtOp uses rule.O4 at place cause → AreCauses makes place.binding cause
   O4_cause at place cause b =
       let m : Origin (Stands (tree_of uses)) b.leaf (made b.by) = subst (λ m. Origin (Stands (tree_of uses)) b.leaf m) b.breaks.4 (origin rule.O4 at place cause b) in
       found makes place.binding b.by cause refl m.0 (made_by b.by.kind m.2)
       (covers_binding b.by.place b.leaf m.1 ∙ sym (covers_binding b.breaking.place b.leaf b.breaks.3) ∙ ap (λ (p : Place). p.binding) b.place_is) b.cause_is
 
-  O6_cause : (at : Span) (place : Place) (cause : Span) → BreaksAtOp uses rule.O6 at place cause → AreCauses makes place.binding cause
+  pub O6_cause : (at : Span) (place : Place) (cause : Span) → BreaksAtOp uses rule.O6 at place cause → AreCauses makes place.binding cause
   O6_cause at place cause b =
       let m : Origin (Stands (tree_of uses)) b.leaf (made b.by) = subst (λ m. Origin (Stands (tree_of uses)) b.leaf m) b.breaks.3 (origin rule.O6 at place cause b) in
       found makes place.binding b.by cause refl m.0 (made_by b.by.kind m.2)
       (covers_binding b.by.place b.leaf m.1 ∙ sym (covers_binding b.breaking.place b.leaf b.breaks.2) ∙ ap (λ (p : Place). p.binding) b.place_is) b.cause_is
 
   -- of a leaf without a value at a return, where no scope ends its binding
-  return_cause : (r : Rule) (at : Span) (leaf : Place) (cause : Span) → (In (ends_in (tree_of uses)) leaf.binding → ⊥)
+  pub return_cause : (r : Rule) (at : Span) (leaf : Place) (cause : Span) → (In (ends_in (tree_of uses)) leaf.binding → ⊥)
       → BreaksAtReturn uses r at leaf cause → AreCauses ends_leaf leaf.binding cause
   return_cause r at leaf cause none b = cases b.without
     where

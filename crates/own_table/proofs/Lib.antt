@@ -5,4 +5,5 @@ pub mod TraceFacts
 pub mod Following
 pub mod Occurs
 pub mod Least
+pub mod Rows
 pub mod Proved
