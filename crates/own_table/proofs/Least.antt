@@ -10,11 +10,11 @@ use Rattle.own_tree.specs.declared.op.OpKind.TheVariants as kind
 use Rattle.own_tree.specs.declared.place.Place.{Place}
 use Rattle.own_tree.specs.declared.span.Span.{Span}
 use Rattle.own_table.specs.Findings.{IsNotAfter, IsGivenUp, BreaksAtOp, BreaksAtReturn, IsWithoutValue}
-use Rattle.own_table.specs.Fixed.{ops_in, is_consume, is_discard, is_assign}
-use Rattle.own_table.specs.Makers.{Mark, fresh, made, ended, bare, kind_needs, BodyUses, tree_of, maker}
+use Rattle.own_table.specs.Fixed.{ops_in, is_consume, is_discard}
+use Rattle.own_table.specs.Makers.{made, ended, bare, kind_needs, BodyUses, tree_of, maker}
 use Rattle.own_table.specs.Places.{covers, overlaps, is_prefix}
 use Rattle.own_table.proofs.Members.{In, in_front}
-use Rattle.own_table.proofs.Occurs.{ends_in, Stands, stands, KindIs, Origin, maker_origin}
+use Rattle.own_table.proofs.Occurs.{ends_in, Stands, stands, Origin, maker_origin}
 
 -- ---- kinds of ops
 

@@ -1,5 +1,5 @@
 -- The ops of a trace stand in the tree, or are Ends of its scopes; so does each maker, and so each cause.
-use Rattle.std.proofs.Common.{◌≡◌, ℕ, zero, suc, ◌⊎◌, Bool, true, false, ◌&&◌, ◌||◌, ◌==◌, not, List, [], ◌∷◌, ◌++◌, inl, inr, refl, sym, ap, ◌∙◌, subst}
+use Rattle.std.proofs.Common.{◌≡◌, ℕ, zero, suc, ◌⊎◌, Bool, true, false, ◌&&◌, not, List, [], ◌∷◌, ◌++◌, inl, inr, refl, sym, ap, subst}
 use Rattle.std.specs.Prelude.{IsTrue, if◌then◌else◌}
 use Rattle.own_tree.specs.declared.op.Op.{Op}
 use Rattle.own_tree.specs.declared.op.OpKind.{OpKind}
@@ -8,7 +8,7 @@ use Rattle.own_tree.specs.declared.place.Place.{Place}
 use Rattle.own_tree.specs.declared.span.Span.{Span}
 use Rattle.own_tree.specs.OpSource.{Ops, op, nothing, next, either, loop, catch, scope, break_at, continue_at, return_at, halt}
 use Rattle.own_table.specs.Fixed.{ops_in}
-use Rattle.own_table.specs.Makers.{Mark, fresh, made, ended, bare, marked, BodyUses, tree_of, mark_by, mark_after, maker}
+use Rattle.own_table.specs.Makers.{Mark, fresh, made, ended, bare, marked, BodyUses, mark_by, mark_after, maker}
 use Rattle.own_table.specs.Places.{covers}
 use Rattle.own_table.specs.Traces.{Completion, goes_on, breaks, continues, returns, halts, cut, Set, After, Joined, Broken, Turns, IsTrace, ends_at, ends_for}
 use Rattle.own_table.proofs.Members.{In, in_front, in_back, in_either}
