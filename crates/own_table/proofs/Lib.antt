@@ -1,6 +1,8 @@
 pub mod Members
 pub mod Orders
+pub mod Descent
 pub mod Causes
+pub mod Sound
 pub mod TraceFacts
 pub mod Following
 pub mod Occurs

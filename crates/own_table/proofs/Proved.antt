@@ -2,9 +2,10 @@
 use Rattle.std.proofs.Common.{refl}
 use Rattle.own_tree.specs.declared.graph.LeafFact.TheVariants as fact
 use Rattle.own_table.specs.Findings.{IsPathFinding, IsFixedFinding, IsFinding}
-use Rattle.own_table.specs.Laws.{PlacesAreOrdered, FindingsAreOrdered, FindingsHaveOneCause, FindingsAreOneList, PathFindingsAreOneList, FixedFindingsAreOneList, LeavesHaveOneFact, TracesStay, TracesGoOn, TracesExist, TracesSplit}
+use Rattle.own_table.specs.Laws.{PlacesAreOrdered, FindingsAreOrdered, FindingsHaveOneCause, SoundBreaksNothing, FindingsAreOneList, PathFindingsAreOneList, FixedFindingsAreOneList, LeavesHaveOneFact, TracesStay, TracesGoOn, TracesExist, TracesSplit}
 use Rattle.own_table.proofs.Causes.{one_cause}
 use Rattle.own_table.proofs.Orders.{places_are_ordered as places, findings_are_ordered as findings, one_list}
+use Rattle.own_table.proofs.Sound.{breaks_nothing}
 use Rattle.own_table.proofs.TraceFacts.{more_turns, longer_trace, some_trace, splits}
 
 pub places_are_ordered : PlacesAreOrdered
@@ -24,6 +25,9 @@ path_findings_are_one_list uses fs gs a b = one_list (IsPathFinding uses) fs gs 
 
 pub fixed_findings_are_one_list : FixedFindingsAreOneList
 fixed_findings_are_one_list types program k body fs gs a b = one_list (IsFixedFinding types program k body) fs gs a b
+
+pub sound_breaks_nothing : SoundBreaksNothing
+sound_breaks_nothing types program sound k body found = breaks_nothing types program sound k body found
 
 pub leaves_have_one_fact : LeavesHaveOneFact
 leaves_have_one_fact uses o leaf fact.Always fact.Always a b = refl

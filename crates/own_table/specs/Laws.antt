@@ -1,14 +1,18 @@
 -- What is proved of these definitions, for contracts to cite.
-use Rattle.std.specs.Prelude.{◌≡◌, ℕ, ◌≤◌, ◌⊎◌, List, ◌++◌}
+use Rattle.std.specs.Prelude.{◌≡◌, ℕ, ◌≤◌, ◌⊎◌, true, Contains, List, ◌++◌, slice_get, Some}
 use Rattle.own_tree.specs.declared.finding.Finding.{Finding}
+use Rattle.own_tree.specs.declared.finding.Rule.{Rule}
+use Rattle.own_tree.specs.declared.span.Span.{Span}
 use Rattle.own_tree.specs.declared.graph.LeafFact.{LeafFact}
 use Rattle.own_tree.specs.declared.op.Op.{Op}
 use Rattle.own_tree.specs.declared.place.Place.{Place}
 use Rattle.own_tree.specs.OpSource.{Ops, next}
 use Rattle.own_tree.specs.TypedSource.{TBody, Program}
 use Rattle.own_table.specs.Facts.{IsFact}
-use Rattle.own_table.specs.Findings.{Precedes, IsSameBreak, IsBodyFinding, ArePathFindings, AreFixedFindings, AreFindings}
-use Rattle.own_table.specs.Makers.{BodyUses}
+use Rattle.own_table.specs.Findings.{Precedes, IsSameBreak, BreaksAtOp, BreaksAtReturn, FallsOff, IsBodyFinding, ArePathFindings, AreFixedFindings, AreFindings, IsSound}
+use Rattle.own_table.specs.Fixed.{fixed_breaks}
+use Rattle.own_table.specs.Makers.{BodyUses, uses_of}
+use Rattle.own_table.specs.Ops.{has_result}
 use Rattle.own_table.specs.Places.{PlaceBefore}
 use Rattle.own_table.specs.Traces.{Completion, goes_on, breaks, continues, returns, halts, cut, IsTrace}
 use Rattle.own_table.specs.Types.{Types}
@@ -50,6 +54,19 @@ abbrev pub FixedFindingsAreOneList : Type 0
 FixedFindingsAreOneList =
     (types : Types) (program : Program) (k : ℕ) (body : TBody) (fs gs : List Finding)
     → AreFixedFindings types program k body fs → AreFixedFindings types program k body gs → fs ≡ gs
+
+-- no rule is broken in a body: on no way, at no return, and by no single use
+pub record BreaksNothing (types : Types) (program : Program) (k : ℕ) (body : TBody) : Type 0 where
+  pub at_op : (r : Rule) (at : Span) (place : Place) (cause : Span) → BreaksAtOp (uses_of types program k body) r at place cause → ⊥
+  pub at_return : (r : Rule) (at : Span) (leaf : Place) (cause : Span) → BreaksAtReturn (uses_of types program k body) r at leaf cause → ⊥
+  pub falls : has_result body.result ≡ true → FallsOff (uses_of types program k body) → ⊥
+  pub fixed : (f : Finding) → Contains (fixed_breaks types program k body) f → ⊥
+
+-- A program without findings breaks no rule: where one is broken, there is a break with a least cause.
+abbrev pub SoundBreaksNothing : Type 0
+SoundBreaksNothing =
+    (types : Types) (program : Program) → IsSound types program → (k : ℕ) (body : TBody) → slice_get program.bodies k ≡ Some body
+    → BreaksNothing types program k body
 
 -- ---- facts
 

@@ -1,6 +1,6 @@
 //! Laws of the definitions. Each function does nothing; its contract is the law.
 
-ghost use Rattle.own_table.specs.Laws.{FindingsAreOneList, FindingsAreOrdered, FindingsHaveOneCause, FixedFindingsAreOneList, LeavesHaveOneFact, PathFindingsAreOneList, PlacesAreOrdered, TracesExist, TracesGoOn, TracesSplit, TracesStay};
+ghost use Rattle.own_table.specs.Laws.{FindingsAreOneList, FindingsAreOrdered, FindingsHaveOneCause, FixedFindingsAreOneList, LeavesHaveOneFact, PathFindingsAreOneList, PlacesAreOrdered, SoundBreaksNothing, TracesExist, TracesGoOn, TracesSplit, TracesStay};
 
 /// The order of places is total.
 pub fn places_are_ordered()
@@ -30,6 +30,11 @@ pub fn path_findings_are_one_list()
 /// A body has one list of findings of the fixed rules, O7 to O11.
 pub fn fixed_findings_are_one_list()
     ensures { FixedFindingsAreOneList }
+{}
+
+/// In a program without findings no rule is broken, on any way and by any single use.
+pub fn sound_breaks_nothing()
+    ensures { SoundBreaksNothing }
 {}
 
 /// A leaf has one fact at most before an op.
