@@ -7,5 +7,6 @@ pub mod TraceFacts
 pub mod Following
 pub mod Occurs
 pub mod Least
+pub mod Spelling
 pub mod Rows
 pub mod Proved
