@@ -9,4 +9,5 @@ pub mod Occurs
 pub mod Least
 pub mod Spelling
 pub mod Rows
+pub mod Worked
 pub mod Proved

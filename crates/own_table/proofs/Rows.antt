@@ -63,9 +63,9 @@ abbrev main_6 : TBody
 main_6 =
     body_of body.Function [] type.Unit false 2106 2801
     (blk 2113 2801 (
-      let_in (node 2203) 0 (new 2211) ∷ let_in (node 2303) 1 num
-      ∷ loop_while (node 2403) (compared (at 2409 type.Bool) compare.Less (p 2409 type.Int 1 []) num)
-      (blk 2415 2703 (do_ 2505 (take_ 2505 (p 2510 file_ 0 [])) ∷ update (node 2605) (path_at 2605 type.Int 1 []) arith_of.Add (sp 2607) num ∷ [])) ∷ []
+    let_in (node 2203) 0 (new 2211) ∷ let_in (node 2303) 1 num
+    ∷ loop_while (node 2403) (compared (at 2409 type.Bool) compare.Less (p 2409 type.Int 1 []) num)
+    (blk 2415 2703 (do_ 2505 (take_ 2505 (p 2510 file_ 0 [])) ∷ update (node 2605) (path_at 2605 type.Int 1 []) arith_of.Add (sp 2607) num ∷ [])) ∷ []
     ))
 
 abbrev uses_6 : BodyUses
@@ -98,10 +98,10 @@ abbrev main_18 : TBody
 main_18 =
     body_of body.Function [] type.Unit false 2106 2801
     (blk 2113 2801 (
-      declare (node 2203) 0
-      ∷ if_then (node 2303) (compared (at 2306 type.Bool) compare.Equal (call (at 2306 type.Int) target.ReadInt no_exps []) num)
-      (blk 2321 2603 (assign (node 2405) (path_at 2405 file_ 0 []) (new 2409) ∷ do_ 2505 (take_ 2505 (p 2510 file_ 0 [])) ∷ []))
-      ∷ do_ 2703 (write_ 2703 (p 2703 file_ 0 [])) ∷ []
+    declare (node 2203) 0
+    ∷ if_then (node 2303) (compared (at 2306 type.Bool) compare.Equal (call (at 2306 type.Int) target.ReadInt no_exps []) num)
+    (blk 2321 2603 (assign (node 2405) (path_at 2405 file_ 0 []) (new 2409) ∷ do_ 2505 (take_ 2505 (p 2510 file_ 0 [])) ∷ []))
+    ∷ do_ 2703 (write_ 2703 (p 2703 file_ 0 [])) ∷ []
     ))
 
 abbrev uses_18 : BodyUses
@@ -198,8 +198,8 @@ abbrev key_decl : Decl
 key_decl =
     struct_of (sp 101) (named 108 (codes "Key")) true
     (
-      field (record { span = sp 203; keyword = keyword.Let; name = named 207 (codes "n"); written = named 210 (codes "Int") })
-      ∷ deinitializer (sp 603) no_block ∷ []
+    field (record { span = sp 203; keyword = keyword.Let; name = named 207 (codes "n"); written = named 210 (codes "Int") })
+    ∷ deinitializer (sp 603) no_block ∷ []
     )
 
 abbrev drop_17 : TBody
@@ -255,8 +255,8 @@ abbrev held_decl : Decl
 held_decl =
     struct_of (sp 2101) (named 2108 (codes "Held")) true
     (
-      field (record { span = sp 2203; keyword = keyword.Var; name = named 2207 (codes "a"); written = named 2210 (codes "File") })
-      ∷ deinitializer (sp 2303) no_block ∷ []
+    field (record { span = sp 2203; keyword = keyword.Var; name = named 2207 (codes "a"); written = named 2210 (codes "File") })
+    ∷ deinitializer (sp 2303) no_block ∷ []
     )
 
 abbrev main_9 : TBody
@@ -275,8 +275,8 @@ abbrev pair_decl : Decl
 pair_decl =
     struct_of (sp 2101) (named 2108 (codes "Pair")) true
     (
-      field (record { span = sp 2203; keyword = keyword.Var; name = named 2207 (codes "a"); written = named 2210 (codes "File") })
-      ∷ field (record { span = sp 2303; keyword = keyword.Var; name = named 2307 (codes "b"); written = named 2310 (codes "File") }) ∷ []
+    field (record { span = sp 2203; keyword = keyword.Var; name = named 2207 (codes "a"); written = named 2210 (codes "File") })
+    ∷ field (record { span = sp 2303; keyword = keyword.Var; name = named 2307 (codes "b"); written = named 2310 (codes "File") }) ∷ []
     )
 
 -- `swap2` of these two stored properties
@@ -284,8 +284,8 @@ abbrev main_11 : ℕ → ℕ → TBody
 main_11 first second =
     body_of body.Function [] type.Unit false 3006 3401
     (blk 3013 3401 (
-      let_in (node 3103) 0 (call (at 3111 (type.Named 1)) (target.Memberwise 1) (exps (new 3119 ∷ new 3135 ∷ [])) (passing.Consume ∷ passing.Consume ∷ []))
-      ∷ do_ 3203 (call (node 3203) (target.Function 5) (exps (address (path_at 3210 file_ 0 (first ∷ [])) ∷ address (path_at 3216 file_ 0 (second ∷ [])) ∷ [])) (passing.Inout ∷ passing.Inout ∷ [])) ∷ []
+    let_in (node 3103) 0 (call (at 3111 (type.Named 1)) (target.Memberwise 1) (exps (new 3119 ∷ new 3135 ∷ [])) (passing.Consume ∷ passing.Consume ∷ []))
+    ∷ do_ 3203 (call (node 3203) (target.Function 5) (exps (address (path_at 3210 file_ 0 (first ∷ [])) ∷ address (path_at 3216 file_ 0 (second ∷ [])) ∷ [])) (passing.Inout ∷ passing.Inout ∷ [])) ∷ []
     ))
 
 abbrev breaks_11 : ℕ → ℕ → List Finding
@@ -313,8 +313,8 @@ abbrev taken_12 : Program
 taken_12 =
     program_of
     (
-      main_12 (do_ 3003 (call (node 3003) (target.Function 5) (exps (num ∷ closure (node 3011) 1 ∷ [])) (passing.ByValue ∷ passing.Closure ∷ [])))
-      ∷ closure_12 (1 ∷ []) (do_ 3018 (take_ 3018 (p 3023 file_ 0 [])) ∷ []) ∷ []
+    main_12 (do_ 3003 (call (node 3003) (target.Function 5) (exps (num ∷ closure (node 3011) 1 ∷ [])) (passing.ByValue ∷ passing.Closure ∷ [])))
+    ∷ closure_12 (1 ∷ []) (do_ 3018 (take_ 3018 (p 3023 file_ 0 [])) ∷ []) ∷ []
     ) (bound 2907 (codes "f") file_ mode.Let 0 ∷ bound 3013 (codes "k") type.Int mode.Plain 1 ∷ [])
 
 abbrev breaks_in : Program → ℕ → List Finding
@@ -333,8 +333,8 @@ abbrev edited_12 : Program
 edited_12 =
     program_of
     (
-      main_12 (do_ 3003 (call (node 3003) (target.Function 5) (exps (address (path_at 3009 file_ 0 []) ∷ closure (node 3012) 1 ∷ [])) (passing.Inout ∷ passing.Closure ∷ [])))
-      ∷ closure_12 [] (assign (node 3014) (path_at 3014 file_ 0 []) (new 3018) ∷ []) ∷ []
+    main_12 (do_ 3003 (call (node 3003) (target.Function 5) (exps (address (path_at 3009 file_ 0 []) ∷ closure (node 3012) 1 ∷ [])) (passing.Inout ∷ passing.Closure ∷ [])))
+    ∷ closure_12 [] (assign (node 3014) (path_at 3014 file_ 0 []) (new 3018) ∷ []) ∷ []
     ) (bound 2907 (codes "f") file_ mode.Var 0 ∷ [])
 
 row_12_captures : captures edited_12 1 ≡ record { binding = 0; change = true } ∷ []
@@ -354,9 +354,9 @@ abbrev drop_28 : List TStm → TBody
 drop_28 discards =
     body_of body.Method (0 ∷ []) type.Unit true 318 903
     (blk 325 903 (
-      switch (node 405) (p 412 (type.Named 0) 0 [])
-      (clause (sp 505) (case_of (pat (bind 1) no_pats)) (stms (discards ++ do_ 707 (call (node 707) target.Print (exps (p 713 type.Int 1 (0 ∷ []) ∷ [])) (passing.ByValue ∷ [])) ∷ [])) no_clauses)
-      ∷ []
+    switch (node 405) (p 412 (type.Named 0) 0 [])
+    (clause (sp 505) (case_of (pat (bind 1) no_pats)) (stms (discards ++ do_ 707 (call (node 707) target.Print (exps (p 713 type.Int 1 (0 ∷ []) ∷ [])) (passing.ByValue ∷ [])) ∷ [])) no_clauses)
+    ∷ []
     ))
 
 abbrev breaks_28 : List TStm → List Finding

@@ -56,8 +56,8 @@ module _ (uses : BodyUses) (none : (f : Finding) → IsPathFinding uses f → �
   no_least_leaf r never at leaf cause b =
       each_span (λ c. (l : Place) → In uses.leaves l → BreaksAtReturn uses r at l c → ⊥)
       (λ c earlier l i.
-        each_place uses.leaves (λ m. BreaksAtReturn uses r at m c → ⊥)
-        (λ m j lower d. never at m c (record { breaks = d; least = λ n e other. first m c earlier lower n e other (in_contains uses.leaves n other.is_leaf) })) l i)
+      each_place uses.leaves (λ m. BreaksAtReturn uses r at m c → ⊥)
+      (λ m j lower d. never at m c (record { breaks = d; least = λ n e other. first m c earlier lower n e other (in_contains uses.leaves n other.is_leaf) })) l i)
       cause leaf (in_contains uses.leaves leaf b.is_leaf) b
     where
       first : (m : Place) (c : Span) → ((d : Span) → SpanBefore d c → (l : Place) → In uses.leaves l → BreaksAtReturn uses r at l d → ⊥)

@@ -93,8 +93,8 @@ abbrev pub file_decl : Decl
 file_decl =
     struct_of (sp 101) (named 108 (codes "File")) true
     (
-      field (record { span = sp 203; keyword = keyword.Let; name = named 207 (codes "fd"); written = named 211 (codes "Int") })
-      ∷ deinitializer (sp 1403) no_block ∷ []
+    field (record { span = sp 203; keyword = keyword.Let; name = named 207 (codes "fd"); written = named 211 (codes "Int") })
+    ∷ deinitializer (sp 1403) no_block ∷ []
     )
 
 abbrev pub with_types : List Decl → Types
@@ -102,4 +102,3 @@ with_types ds = types_declared (declared_types ds)
 
 abbrev pub file_types : Types
 file_types = with_types (file_decl ∷ [])
-
