@@ -1,6 +1,7 @@
 pub mod Members
 pub mod Orders
 pub mod Descent
+pub mod Unfolding
 pub mod Causes
 pub mod Sound
 pub mod TraceFacts

@@ -2,11 +2,15 @@
 use Rattle.std.proofs.Common.{refl}
 use Rattle.own_tree.specs.declared.graph.LeafFact.TheVariants as fact
 use Rattle.own_table.specs.Findings.{IsPathFinding, IsFixedFinding, IsFinding}
-use Rattle.own_table.specs.Laws.{PlacesAreOrdered, FindingsAreOrdered, FindingsHaveOneCause, SoundBreaksNothing, FindingsAreOneList, PathFindingsAreOneList, FixedFindingsAreOneList, LeavesHaveOneFact, TracesStay, TracesGoOn, TracesExist, TracesSplit}
+use Rattle.own_table.specs.Laws.{ShapesUnfold, PlacesAreOrdered, FindingsAreOrdered, FindingsHaveOneCause, SoundBreaksNothing, FindingsAreOneList, PathFindingsAreOneList, FixedFindingsAreOneList, LeavesHaveOneFact, TracesStay, TracesGoOn, TracesExist, TracesSplit}
 use Rattle.own_table.proofs.Causes.{one_cause}
 use Rattle.own_table.proofs.Orders.{places_are_ordered as places, findings_are_ordered as findings, one_list}
 use Rattle.own_table.proofs.Sound.{breaks_nothing}
+use Rattle.own_table.proofs.Unfolding.{shapes_unfold as by_declaration}
 use Rattle.own_table.proofs.TraceFacts.{more_turns, longer_trace, some_trace, splits}
+
+pub shapes_unfold : ShapesUnfold
+shapes_unfold ds none k d e = by_declaration ds none k d e
 
 pub places_are_ordered : PlacesAreOrdered
 places_are_ordered = places

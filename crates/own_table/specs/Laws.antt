@@ -6,6 +6,7 @@ use Rattle.own_tree.specs.declared.span.Span.{Span}
 use Rattle.own_tree.specs.declared.graph.LeafFact.{LeafFact}
 use Rattle.own_tree.specs.declared.op.Op.{Op}
 use Rattle.own_tree.specs.declared.place.Place.{Place}
+use Rattle.own_tree.specs.declared.place.Ty.TheVariants as type
 use Rattle.own_tree.specs.OpSource.{Ops, next}
 use Rattle.own_tree.specs.TypedSource.{TBody, Program}
 use Rattle.own_table.specs.Facts.{IsFact}
@@ -15,7 +16,7 @@ use Rattle.own_table.specs.Makers.{BodyUses, uses_of}
 use Rattle.own_table.specs.Ops.{has_result}
 use Rattle.own_table.specs.Places.{PlaceBefore}
 use Rattle.own_table.specs.Traces.{Completion, goes_on, breaks, continues, returns, halts, cut, IsTrace}
-use Rattle.own_table.specs.Types.{Types}
+use Rattle.own_table.specs.Types.{Types, Declared, declared_shape, types_declared, NoneContainsItself}
 
 -- ---- orders
 
@@ -31,6 +32,14 @@ PlacesAreOrdered = IsOrder PlaceBefore (λ p q. p ≡ q)
 -- two findings that are not in order have one rule, one span and one place
 abbrev pub FindingsAreOrdered : Type 0
 FindingsAreOrdered = IsOrder Precedes IsSameBreak
+
+-- ---- types
+
+-- where no type contains itself, a declared type has the shape of its declaration, by the shapes of what it contains
+abbrev pub ShapesUnfold : Type 0
+ShapesUnfold =
+    (ds : List Declared) → NoneContainsItself ds → (k : ℕ) (d : Declared) → slice_get ds k ≡ Some d
+    → (types_declared ds).shape (type.Named k) ≡ declared_shape ds (types_declared ds).shape k d
 
 -- ---- findings
 

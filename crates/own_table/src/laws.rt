@@ -1,6 +1,11 @@
 //! Laws of the definitions. Each function does nothing; its contract is the law.
 
-ghost use Rattle.own_table.specs.Laws.{FindingsAreOneList, FindingsAreOrdered, FindingsHaveOneCause, FixedFindingsAreOneList, LeavesHaveOneFact, PathFindingsAreOneList, PlacesAreOrdered, SoundBreaksNothing, TracesExist, TracesGoOn, TracesSplit, TracesStay};
+ghost use Rattle.own_table.specs.Laws.{FindingsAreOneList, FindingsAreOrdered, FindingsHaveOneCause, FixedFindingsAreOneList, LeavesHaveOneFact, PathFindingsAreOneList, PlacesAreOrdered, ShapesUnfold, SoundBreaksNothing, TracesExist, TracesGoOn, TracesSplit, TracesStay};
+
+/// Where no type contains itself, a declared type has the shape of its declaration.
+pub fn shapes_unfold()
+    ensures { ShapesUnfold }
+{}
 
 /// The order of places is total.
 pub fn places_are_ordered()
