@@ -8,6 +8,7 @@ pub mod TraceFacts
 pub mod Following
 pub mod Occurs
 pub mod Least
+pub mod Every
 pub mod Spelling
 pub mod Rows
 pub mod Worked
