@@ -11,5 +11,6 @@ pub mod Least
 pub mod Every
 pub mod Spelling
 pub mod Rows
+pub mod Lists
 pub mod Worked
 pub mod Proved
