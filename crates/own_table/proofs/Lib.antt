@@ -13,4 +13,5 @@ pub mod Spelling
 pub mod Rows
 pub mod Lists
 pub mod Worked
+pub mod Accepted
 pub mod Proved

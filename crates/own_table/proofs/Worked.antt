@@ -27,7 +27,7 @@ use Rattle.own_table.specs.Makers.{BodyUses, tree_of, uses_of}
 use Rattle.own_table.specs.Ops.{stm_ops, body_ops}
 use Rattle.own_table.specs.Places.{whole}
 use Rattle.own_table.specs.Traces.{returns, end_of}
-use Rattle.own_table.specs.Types.{Shape, passes_let, types_declared, types_of, copyable, tracked, holds_tracked, leaves, opened_leaves, slots}
+use Rattle.own_table.specs.Types.{Types, Shape, passes_let, types_declared, types_of, copyable, tracked, holds_tracked, leaves, opened_leaves, slots}
 use Rattle.own_table.proofs.Following.{followed}
 use Rattle.own_table.proofs.Least.{O6_cause, return_cause, ends_leaf, spans_of, least_in}
 use Rattle.own_table.proofs.Members.{In, in_contains}
@@ -35,14 +35,14 @@ use Rattle.own_table.proofs.Spelling.{sp, at, node, named, file_, in_place, path
 
 -- ---- types
 
-abbrev one_case : List ℕ → List Name → CaseItem
+abbrev pub one_case : List ℕ → List Name → CaseItem
 one_case name payloads = record { span = sp 0; name = named 0 name; payloads = payloads }
 
-abbrev property : Keyword → List ℕ → List ℕ → Member
+abbrev pub property : Keyword → List ℕ → List ℕ → Member
 property word name ty = field (record { span = sp 0; keyword = word; name = named 0 name; written = named 0 ty })
 
 -- after `File`: a struct of two, one with a `deinit`, an enum, and a struct without properties
-abbrev more_decls : List Decl
+abbrev pub more_decls : List Decl
 more_decls =
     file_decl
     ∷ struct_of (sp 0) (named 0 (codes "Pair")) true (property keyword.Var (codes "a") (codes "File") ∷ property keyword.Let (codes "b") (codes "File") ∷ [])
@@ -54,16 +54,16 @@ more_decls =
     )
     ∷ struct_of (sp 0) (named 0 (codes "Empty")) false [] ∷ []
 
-abbrev pair_ : Shape
+abbrev pub pair_ : Shape
 pair_ = (with_types more_decls).shape (type.Named 1)
 
-abbrev held_ : Shape
+abbrev pub held_ : Shape
 held_ = (with_types more_decls).shape (type.Named 2)
 
-abbrev slot_ : Shape
+abbrev pub slot_ : Shape
 slot_ = (with_types more_decls).shape (type.Named 3)
 
-abbrev empty_ : Shape
+abbrev pub empty_ : Shape
 empty_ = (with_types more_decls).shape (type.Named 4)
 
 a_pair_comes_apart : (leaves pair_ ≡ (0 ∷ []) ∷ (1 ∷ []) ∷ []) × (slots pair_ ≡ 4) × (copyable pair_ ≡ false) × (tracked pair_ ≡ false) × (holds_tracked pair_ ≡ true)
@@ -88,11 +88,11 @@ a_let_is_passed = (refl, refl)
 
 -- ---- M8: 64 words are within the limit, and 65 are not
 
-abbrev numbers : ℕ → List Member
+abbrev pub numbers : ℕ → List Member
 numbers zero = []
 numbers (suc n) = property keyword.Let (codes "n") (codes "Int") ∷ numbers n
 
-abbrev wide : ℕ → File
+abbrev pub wide : ℕ → File
 wide n = record { declarations = struct_of (sp 101) (named 108 (codes "Wide")) false (numbers n) ∷ []; main = sp 0; tokens = 0 }
 
 row_22 : (over_M8 (types_of (wide 64)) (wide 64) ≡ None) × (over_M8 (types_of (wide 65)) (wide 65) ≡ Some (counted 65 (sp 108)))
@@ -101,7 +101,7 @@ row_22 = (refl, refl)
 
 -- ---- row 13: a consuming `switch` whose guard sees what the body then owns
 
-abbrev switch_13 : TStm
+abbrev pub switch_13 : TStm
 switch_13 =
     switch (node 2803) (consumed (at 2810 (type.Named 1)) (path_at 2818 (type.Named 1) 0 []))
     (clause (sp 2903) (case_where (of_case 2 (pat (bind 1) (pat any no_pats))) (call (at 2929 type.Bool) (target.Function 5) (exps (p 2932 file_ 1 [] ∷ [])) (passing.Borrow ∷ [])))
@@ -109,7 +109,7 @@ switch_13 =
     (clause (sp 3103) (case_of (pat (of_case 2 (pat any (pat (bind 3) no_pats))) no_pats)) (stms [])
     (clause (sp 3303) default (stms []) no_clauses)))
 
-abbrev program_13 : Program
+abbrev pub program_13 : Program
 program_13 =
     program_of [] (
     bound 2707 (codes "e") (type.Named 1) mode.Let 0 ∷ bound 2918 (codes "a") file_ mode.PatternBorrowed 0 ∷ bound 2918 (codes "a") file_ mode.PatternOwned 0
@@ -134,6 +134,26 @@ row_13 : stm_ops (with_types (file_decl ∷ enum_of (sp 0) (named 0 (codes "Slot
 unfolding types_declared
 row_13 = refl
 
+abbrev pub slot_types : Types
+slot_types =
+    with_types (
+      file_decl
+      ∷ enum_of (sp 0) (named 0 (codes "Slot")) true
+      (cases (sp 0) (one_case (codes "none") [] ∷ one_case (codes "one") (named 0 (codes "File") ∷ []) ∷ one_case (codes "two") (named 0 (codes "File") ∷ named 0 (codes "File") ∷ []) ∷ []) ∷ [])
+      ∷ []
+    )
+
+abbrev pub main_13 : TBody
+main_13 =
+    body_of body.Function [] type.Unit false 2606 3601
+    (blk 2613 3601 (
+      let_in (node 2703) 0 (call (at 2711 (type.Named 1)) (target.Case 1 2) (exps (new 2720 ∷ new 2735 ∷ [])) (passing.Consume ∷ passing.Consume ∷ []))
+      ∷ switch_13 ∷ []
+    ))
+
+abbrev pub accepted_13 : Program
+accepted_13 = program_of (main_13 ∷ []) program_13.bindings
+
 -- ---- row 16: a loop that has no way out
 
 row_16 : stm_ops (with_types []) (program_of [] []) (loop_while (node 115) (truth (at 121 type.Bool) true) (blk 126 137 []))
@@ -148,10 +168,10 @@ for_turns = refl
 
 -- ---- a body that is one expression returns it
 
-abbrev own_fd : TBody
+abbrev pub own_fd : TBody
 own_fd = body_of body.Function (0 ∷ []) type.Int false 106 144 (blk 135 144 (evaluate (node 137) (p 137 type.Int 0 (0 ∷ [])) ∷ []))
 
-abbrev own_fd_program : Program
+abbrev pub own_fd_program : Program
 own_fd_program = program_of (own_fd ∷ []) (bound 110 (codes "f") file_ mode.Consuming 0 ∷ [])
 
 one_expression : body_ops file_types own_fd_program own_fd
@@ -173,16 +193,16 @@ counted_by_ways = (refl, refl, refl)
 
 -- ---- `init`
 
-abbrev init_of : List TStm → TBody
+abbrev pub init_of : List TStm → TBody
 init_of ss = body_of body.Initializer (0 ∷ []) type.Unit false 303 703 (blk 316 703 ss)
 
-abbrev init_program : List TStm → Program
+abbrev pub init_program : List TStm → Program
 init_program ss = program_of (init_of ss ∷ []) (bound 303 (codes "self") file_ mode.SelfInit 0 ∷ [])
 
-abbrev init_uses : List TStm → BodyUses
+abbrev pub init_uses : List TStm → BodyUses
 init_uses ss = uses_of file_types (init_program ss) 0 (init_of ss)
 
-abbrev set_fd : ℕ → TStm
+abbrev pub set_fd : ℕ → TStm
 set_fd n = assign (node n) (path_at n type.Int 0 (0 ∷ [])) num
 
 -- `self.fd` has no value at the end
@@ -208,7 +228,7 @@ never_set = record {
 }
 
 -- the second assignment to a `let` property, and the one rule that it breaks
-abbrev twice : List TStm
+abbrev pub twice : List TStm
 twice = set_fd 405 ∷ set_fd 505 ∷ []
 
 set_twice : IsPathFinding (init_uses twice) (broken rule.O6 (sp 505) (in_place 0 (0 ∷ [])) (sp 405))
@@ -235,7 +255,7 @@ set_twice_breaks_no_other = refl
 
 -- ---- row 5: a leaf that one way consumes and the other does not
 
-abbrev main_5 : TBody
+abbrev pub main_5 : TBody
 main_5 =
     body_of body.Function [] type.Unit false 2106 2501
     (blk 2113 2501 (
@@ -244,7 +264,7 @@ main_5 =
     ∷ do_ 2403 (call (node 2403) target.Print (exps (text (node 2409) (codes "done") ∷ [])) (passing.ByValue ∷ [])) ∷ []
     ))
 
-abbrev program_5 : Program
+abbrev pub program_5 : Program
 program_5 = program_of (main_5 ∷ []) (bound 2207 (codes "f") file_ mode.Let 0 ∷ [])
 
 row_5 : IsAmbiguous file_types program_5 0 main_5 (whole 0)
