@@ -20,8 +20,8 @@ abbrev main_3 : TBody
 main_3 =
     body_of body.Function [] type.Unit false 2106 2701
     (blk 2113 2701 (
-      let_in (node 2203) 0 (new 2211) ∷ let_in (node 2303) 1 (new 2311) ∷ do_ 2403 (write_ 2403 (p 2403 file_ 0 []))
-      ∷ do_ 2503 (call (node 2503) (target.Method 3) (exps (p 2503 file_ 0 [] ∷ [])) (passing.Consume ∷ [])) ∷ do_ 2603 (write_ 2603 (p 2603 file_ 1 [])) ∷ []
+    let_in (node 2203) 0 (new 2211) ∷ let_in (node 2303) 1 (new 2311) ∷ do_ 2403 (write_ 2403 (p 2403 file_ 0 []))
+    ∷ do_ 2503 (call (node 2503) (target.Method 3) (exps (p 2503 file_ 0 [] ∷ [])) (passing.Consume ∷ [])) ∷ do_ 2603 (write_ 2603 (p 2603 file_ 1 [])) ∷ []
     ))
 
 row_3 : IsSound file_types (program_of (main_3 ∷ []) (bound 2207 (codes "a") file_ mode.Let 0 ∷ bound 2307 (codes "b") file_ mode.Let 0 ∷ []))
@@ -38,9 +38,9 @@ abbrev main_8 : TBody
 main_8 =
     body_of body.Function [] type.Unit false 3006 3701
     (blk 3013 3701 (
-      let_in (node 3103) 0 (call (at 3111 (type.Named 1)) (target.Memberwise 1) (exps (new 3119 ∷ new 3135 ∷ [])) (passing.Consume ∷ passing.Consume ∷ []))
-      ∷ do_ 3203 (take_ 3203 (p 3208 file_ 0 (0 ∷ []))) ∷ do_ 3303 (write_ 3303 (p 3303 file_ 0 (1 ∷ []))) ∷ assign (node 3403) (path_at 3403 file_ 0 (0 ∷ [])) (new 3409)
-      ∷ do_ 3503 (call (node 3503) (target.Function 6) (exps (p 3508 (type.Named 1) 0 [] ∷ [])) (passing.Borrow ∷ [])) ∷ []
+    let_in (node 3103) 0 (call (at 3111 (type.Named 1)) (target.Memberwise 1) (exps (new 3119 ∷ new 3135 ∷ [])) (passing.Consume ∷ passing.Consume ∷ []))
+    ∷ do_ 3203 (take_ 3203 (p 3208 file_ 0 (0 ∷ []))) ∷ do_ 3303 (write_ 3303 (p 3303 file_ 0 (1 ∷ []))) ∷ assign (node 3403) (path_at 3403 file_ 0 (0 ∷ [])) (new 3409)
+    ∷ do_ 3503 (call (node 3503) (target.Function 6) (exps (p 3508 (type.Named 1) 0 [] ∷ [])) (passing.Borrow ∷ [])) ∷ []
     ))
 
 abbrev program_8 : Program
@@ -70,8 +70,8 @@ abbrev drop_17 : TBody
 drop_17 =
     body_of body.Method (0 ∷ 1 ∷ []) type.Unit true 318 503
     (blk 334 503 (
-      if_else (node 405) (p 408 type.Bool 1 []) (blk 410 425 (discard_self (node 412) (whole 0) ∷ []))
-      (blk 432 453 (ignore (node 434) (consumed (at 438 (type.Named 0)) (path_at 446 (type.Named 0) 0 [])) ∷ [])) ∷ []
+    if_else (node 405) (p 408 type.Bool 1 []) (blk 410 425 (discard_self (node 412) (whole 0) ∷ []))
+    (blk 432 453 (ignore (node 434) (consumed (at 438 (type.Named 0)) (path_at 446 (type.Named 0) 0 [])) ∷ [])) ∷ []
     ))
 
 abbrev program_17 : Program

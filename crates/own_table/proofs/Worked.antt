@@ -137,18 +137,18 @@ row_13 = refl
 abbrev pub slot_types : Types
 slot_types =
     with_types (
-      file_decl
-      ∷ enum_of (sp 0) (named 0 (codes "Slot")) true
-      (cases (sp 0) (one_case (codes "none") [] ∷ one_case (codes "one") (named 0 (codes "File") ∷ []) ∷ one_case (codes "two") (named 0 (codes "File") ∷ named 0 (codes "File") ∷ []) ∷ []) ∷ [])
-      ∷ []
+    file_decl
+    ∷ enum_of (sp 0) (named 0 (codes "Slot")) true
+    (cases (sp 0) (one_case (codes "none") [] ∷ one_case (codes "one") (named 0 (codes "File") ∷ []) ∷ one_case (codes "two") (named 0 (codes "File") ∷ named 0 (codes "File") ∷ []) ∷ []) ∷ [])
+    ∷ []
     )
 
 abbrev pub main_13 : TBody
 main_13 =
     body_of body.Function [] type.Unit false 2606 3601
     (blk 2613 3601 (
-      let_in (node 2703) 0 (call (at 2711 (type.Named 1)) (target.Case 1 2) (exps (new 2720 ∷ new 2735 ∷ [])) (passing.Consume ∷ passing.Consume ∷ []))
-      ∷ switch_13 ∷ []
+    let_in (node 2703) 0 (call (at 2711 (type.Named 1)) (target.Case 1 2) (exps (new 2720 ∷ new 2735 ∷ [])) (passing.Consume ∷ passing.Consume ∷ []))
+    ∷ switch_13 ∷ []
     ))
 
 abbrev pub accepted_13 : Program

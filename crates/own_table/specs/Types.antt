@@ -187,6 +187,9 @@ pub record Types : Type 0 where
   -- how many are declared
   pub count : ℕ
 
+abbrev pub is_copyable : Types → Ty → Bool
+is_copyable types ty = copyable (types.shape ty)
+
 -- the declaration of a struct or an enum
 pub record Declared : Type 0 where
   pub name : Name
