@@ -1,6 +1,7 @@
 pub mod Members
 pub mod Orders
 pub mod Descent
+pub mod Leaves
 pub mod Unfolding
 pub mod Causes
 pub mod Sound

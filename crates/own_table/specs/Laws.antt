@@ -1,5 +1,5 @@
 -- What is proved of these definitions, for contracts to cite.
-use Rattle.std.specs.Prelude.{◌≡◌, ℕ, ◌≤◌, ◌⊎◌, true, Contains, List, ◌++◌, slice_get, Some}
+use Rattle.std.specs.Prelude.{◌≡◌, ℕ, ◌≤◌, ◌⊎◌, true, Contains, IsTrue, List, ◌++◌, slice_get, Some}
 use Rattle.own_tree.specs.declared.finding.Finding.{Finding}
 use Rattle.own_tree.specs.declared.finding.Rule.{Rule}
 use Rattle.own_tree.specs.declared.span.Span.{Span}
@@ -14,9 +14,9 @@ use Rattle.own_table.specs.Findings.{Precedes, IsSameBreak, BreaksAtOp, BreaksAt
 use Rattle.own_table.specs.Fixed.{fixed_breaks}
 use Rattle.own_table.specs.Makers.{BodyUses, uses_of}
 use Rattle.own_table.specs.Ops.{has_result}
-use Rattle.own_table.specs.Places.{PlaceBefore}
+use Rattle.own_table.specs.Places.{is_prefix, PlaceBefore}
 use Rattle.own_table.specs.Traces.{Completion, goes_on, breaks, continues, returns, halts, cut, IsTrace}
-use Rattle.own_table.specs.Types.{Types, Declared, declared_shape, types_declared, NoneContainsItself}
+use Rattle.own_table.specs.Types.{Types, Shape, Shapes, leaves, opened_leaves, slots, all_slots, shape_at, Declared, declared_shape, types_declared, NoneContainsItself}
 
 -- ---- orders
 
@@ -40,6 +40,18 @@ abbrev pub ShapesUnfold : Type 0
 ShapesUnfold =
     (ds : List Declared) → NoneContainsItself ds → (k : ℕ) (d : Declared) → slice_get ds k ≡ Some d
     → (types_declared ds).shape (type.Named k) ≡ declared_shape ds (types_declared ds).shape k d
+
+-- no leaf of a type lies at or below another one
+abbrev pub LeavesAreApart : Type 0
+LeavesAreApart = (s : Shape) (p q : List ℕ) → Contains (leaves s) p → Contains (leaves s) q → IsTrue (is_prefix p q) → p ≡ q
+
+-- nor one of `self` in `init`
+abbrev pub OpenedLeavesAreApart : Type 0
+OpenedLeavesAreApart = (s : Shape) (p q : List ℕ) → Contains (opened_leaves s) p → Contains (opened_leaves s) q → IsTrue (is_prefix p q) → p ≡ q
+
+-- a part has no more slots than the struct or the case that it is in
+abbrev pub PartsAreNoLarger : Type 0
+PartsAreNoLarger = (ss : Shapes) (k : ℕ) → slots (shape_at ss k) ≤ all_slots ss
 
 -- ---- findings
 

@@ -200,7 +200,7 @@ module _ (types : Types) (program : Program) where
     args_ops no_exps ps = []
     args_ops (exp e es) ps = exp_ops e (use_by (first_passing ps)) ∷ args_ops es (other_passings ps)
 
-  -- the ops of a clause before its body's own statements, by its head: the body in its scope
+  -- a clause by its head, with the ops of its statements
   abbrev pub clause_ops : TExp → At → Span → TWhen → TStms → List Ops → Ops
   clause_ops subject at span (case_of ps) ss body =
       clause_tree (map (make at) (patterns_bindings ps)) None (scope_of (patterns_bindings ps ++ locals ss) (closing at.span) body) span
