@@ -15,4 +15,5 @@ pub mod Rows
 pub mod Lists
 pub mod Worked
 pub mod Accepted
+pub mod Single
 pub mod Proved
