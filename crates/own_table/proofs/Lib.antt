@@ -11,7 +11,7 @@ pub mod Occurs
 pub mod Least
 pub mod Every
 pub mod Spelling
-pub mod Rows
+pub mod Refused
 pub mod Lists
 pub mod Worked
 pub mod Accepted

@@ -95,28 +95,28 @@ numbers (suc n) = property keyword.Let (codes "n") (codes "Int") ∷ numbers n
 abbrev pub wide : ℕ → File
 wide n = record { declarations = struct_of (sp 101) (named 108 (codes "Wide")) false (numbers n) ∷ []; main = sp 0; tokens = 0 }
 
-row_22 : (over_M8 (types_of (wide 64)) (wide 64) ≡ None) × (over_M8 (types_of (wide 65)) (wide 65) ≡ Some (counted 65 (sp 108)))
+widest_struct : (over_M8 (types_of (wide 64)) (wide 64) ≡ None) × (over_M8 (types_of (wide 65)) (wide 65) ≡ Some (counted 65 (sp 108)))
 unfolding types_of types_declared
-row_22 = (refl, refl)
+widest_struct = (refl, refl)
 
--- ---- row 13: a consuming `switch` whose guard sees what the body then owns
+-- ---- a consuming `switch` whose guard sees what the body then owns
 
-abbrev pub switch_13 : TStm
-switch_13 =
+abbrev pub switch_guard : TStm
+switch_guard =
     switch (node 2803) (consumed (at 2810 (type.Named 1)) (path_at 2818 (type.Named 1) 0 []))
     (clause (sp 2903) (case_where (of_case 2 (pat (bind 1) (pat any no_pats))) (call (at 2929 type.Bool) (target.Function 5) (exps (p 2932 file_ 1 [] ∷ [])) (passing.Borrow ∷ [])))
     (stms (do_ 3005 (call (node 3005) target.Print (exps (p 3018 type.Int 2 (0 ∷ []) ∷ [])) (passing.ByValue ∷ [])) ∷ []))
     (clause (sp 3103) (case_of (pat (of_case 2 (pat any (pat (bind 3) no_pats))) no_pats)) (stms [])
     (clause (sp 3303) default (stms []) no_clauses)))
 
-abbrev pub program_13 : Program
-program_13 =
+abbrev pub program_guard : Program
+program_guard =
     program_of [] (
     bound 2707 (codes "e") (type.Named 1) mode.Let 0 ∷ bound 2918 (codes "a") file_ mode.PatternBorrowed 0 ∷ bound 2918 (codes "a") file_ mode.PatternOwned 0
     ∷ bound 3120 (codes "b") file_ mode.PatternOwned 0 ∷ []
     )
 
-row_13 : stm_ops (with_types (file_decl ∷ enum_of (sp 0) (named 0 (codes "Slot")) true [] ∷ [])) program_13 switch_13
+guarded_clause : stm_ops (with_types (file_decl ∷ enum_of (sp 0) (named 0 (codes "Slot")) true [] ∷ [])) program_guard switch_guard
     ≡ in_order (
     op (op_at kind.Consume (whole 0) 2818 2818)
     ∷ catch (in_order (
@@ -132,7 +132,7 @@ row_13 : stm_ops (with_types (file_decl ∷ enum_of (sp 0) (named 0 (codes "Slot
     )) ∷ []
     )
 unfolding types_declared
-row_13 = refl
+guarded_clause = refl
 
 abbrev pub slot_types : Types
 slot_types =
@@ -143,22 +143,22 @@ slot_types =
     ∷ []
     )
 
-abbrev pub main_13 : TBody
-main_13 =
+abbrev pub main_guard : TBody
+main_guard =
     body_of body.Function [] type.Unit false 2606 3601
     (blk 2613 3601 (
     let_in (node 2703) 0 (call (at 2711 (type.Named 1)) (target.Case 1 2) (exps (new 2720 ∷ new 2735 ∷ [])) (passing.Consume ∷ passing.Consume ∷ []))
-    ∷ switch_13 ∷ []
+    ∷ switch_guard ∷ []
     ))
 
-abbrev pub accepted_13 : Program
-accepted_13 = program_of (main_13 ∷ []) program_13.bindings
+abbrev pub accepted_guard : Program
+accepted_guard = program_of (main_guard ∷ []) program_guard.bindings
 
--- ---- row 16: a loop that has no way out
+-- ---- a loop that has no way out
 
-row_16 : stm_ops (with_types []) (program_of [] []) (loop_while (node 115) (truth (at 121 type.Bool) true) (blk 126 137 []))
+loop_without_way_out : stm_ops (with_types []) (program_of [] []) (loop_while (node 115) (truth (at 121 type.Bool) true) (blk 126 137 []))
     ≡ loop (in_order (nothing ∷ scope [] (sp 137) nothing ∷ [])) nothing
-row_16 = refl
+loop_without_way_out = refl
 
 -- ---- a `for` makes its variable in each turn, and ends it with the block
 
@@ -253,10 +253,10 @@ set_twice_breaks_no_other : fixed_breaks file_types (init_program twice) 0 (init
 unfolding types_declared
 set_twice_breaks_no_other = refl
 
--- ---- row 5: a leaf that one way consumes and the other does not
+-- ---- a leaf that one way consumes and the other does not
 
-abbrev pub main_5 : TBody
-main_5 =
+abbrev pub main_either : TBody
+main_either =
     body_of body.Function [] type.Unit false 2106 2501
     (blk 2113 2501 (
     let_in (node 2203) 0 (new 2211)
@@ -264,18 +264,18 @@ main_5 =
     ∷ do_ 2403 (call (node 2403) target.Print (exps (text (node 2409) (codes "done") ∷ [])) (passing.ByValue ∷ [])) ∷ []
     ))
 
-abbrev pub program_5 : Program
-program_5 = program_of (main_5 ∷ []) (bound 2207 (codes "f") file_ mode.Let 0 ∷ [])
+abbrev pub program_either : Program
+program_either = program_of (main_either ∷ []) (bound 2207 (codes "f") file_ mode.Let 0 ∷ [])
 
-row_5 : IsAmbiguous file_types program_5 0 main_5 (whole 0)
+is_ambiguous : IsAmbiguous file_types program_either 0 main_either (whole 0)
 unfolding types_declared
-row_5 = record {
+is_ambiguous = record {
   is_leaf = (0, omega arith, refl);
   tracked = refl;
   at = end_of (sp 2501) 0;
   destroys = inl (refl, refl);
   both = (
-    (op_at kind.Make (whole 0) 2207 2203 ∷ [], (0, [], returns (sp 2501), followed 0 (tree_of (uses_of file_types program_5 0 main_5)) (false ∷ [])), refl),
-    (op_at kind.Make (whole 0) 2207 2203 ∷ op_at kind.Consume (whole 0) 2328 2328 ∷ [], (0, [], returns (sp 2501), followed 0 (tree_of (uses_of file_types program_5 0 main_5)) (true ∷ [])), refl),
+    (op_at kind.Make (whole 0) 2207 2203 ∷ [], (0, [], returns (sp 2501), followed 0 (tree_of (uses_of file_types program_either 0 main_either)) (false ∷ [])), refl),
+    (op_at kind.Make (whole 0) 2207 2203 ∷ op_at kind.Consume (whole 0) 2328 2328 ∷ [], (0, [], returns (sp 2501), followed 0 (tree_of (uses_of file_types program_either 0 main_either)) (true ∷ [])), refl),
   );
 }
