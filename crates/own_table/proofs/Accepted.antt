@@ -15,6 +15,7 @@ use Rattle.own_table.proofs.Spelling.{at, node, file_, path_at, p, exps, blk, bo
 use Rattle.own_table.proofs.Worked.{program_either, slot_types, accepted_guard}
 
 -- ---- one way, from top to bottom
+-- let a = File(fd: 1); let b = File(fd: 2); a.write(10); a.close(); b.write(20)
 
 abbrev main_straight : TBody
 main_straight =
@@ -33,6 +34,7 @@ unfolding types_declared
 either_is_accepted = the_findings file_types program_either [] refl tt tt tt
 
 -- ---- a part is consumed, and then assigned again
+-- var p = Pair(a: File(fd: 1), b: File(fd: 2)); take(p.a); p.b.write(5); p.a = File(fd: 3); look(p)
 
 abbrev main_parts : TBody
 main_parts =
@@ -51,6 +53,7 @@ unfolding types_declared
 parts_are_accepted = the_findings (with_types (file_decl ∷ pair_decl ∷ [])) program_parts [] refl tt tt tt
 
 -- ---- with a new value on the way that consumes
+-- func maybe(_ f: inout File, _ c: Bool) { if c { take(f); f = File(fd: 7) } }
 
 abbrev maybe_lent : TBody
 maybe_lent =
@@ -65,6 +68,7 @@ unfolding types_declared
 refilled_is_accepted = the_findings file_types program_lent [] refl tt tt tt
 
 -- ---- with a `consume self` on the other way
+-- consuming func drop(_ c: Bool) { if c { discard self } else { _ = consume self } }
 
 abbrev drop_discarding : TBody
 drop_discarding =

@@ -30,6 +30,7 @@ use Rattle.own_table.proofs.Members.{In, in_contains}
 use Rattle.own_table.proofs.Spelling.{sp, at, node, named, file_, in_place, path_at, p, num, exps, stms, blk, bound, body_of, program_of, do_, new, take_, write_, op_at, no_block, file_decl, with_types, file_types}
 
 -- ---- a use after a call that consumes
+-- func main() { let f = File(fd: 1); take(f); f.write(1) }
 
 abbrev pub main_used : TBody
 main_used =
@@ -61,6 +62,7 @@ used_after_call = record {
 }
 
 -- ---- a use in a later turn of a loop
+-- let f = File(fd: 1); var i = 0; while i < 2 { take(f); i += 1 }
 
 abbrev pub main_turns : TBody
 main_turns =
@@ -99,6 +101,7 @@ used_in_next_turn = record {
 }
 
 -- ---- on one way consumed, on the other never given a value
+-- var f: File; if readInt() == 1 { f = File(fd: 1); take(f) }; f.write(1)
 
 abbrev pub main_partly : TBody
 main_partly =
@@ -153,6 +156,7 @@ given_no_value_on_the_other = record {
 }
 
 -- ---- an `inout` parameter that a return leaves without a value
+-- func maybe(_ f: inout File, _ c: Bool) { if c { take(f) } }
 
 abbrev pub maybe_lent : TBody
 maybe_lent =
@@ -205,6 +209,7 @@ lent_is_left_empty = record {
     not_ended (inr none) = none
 
 -- ---- `self` reaches its end in a body with `discard self`
+-- consuming func drop(_ c: Bool) { if c { discard self } }
 
 abbrev pub key_decl : Decl
 key_decl =
@@ -244,6 +249,7 @@ self_is_not_ended = record {
 }
 
 -- ---- the end of a body with a result
+-- func f(_ c: Bool) -> Int { if c { return 1 } }
 
 abbrev pub f_ending : TBody
 f_ending =
@@ -267,6 +273,7 @@ end_is_reached = record {
 }
 
 -- ---- a part of a value whose type has a `deinit`
+-- let q = Held(a: File(fd: 1)); take(q.a)
 
 abbrev pub held_decl : Decl
 held_decl =
@@ -290,6 +297,7 @@ unfolding types_declared
 part_of_tracked = refl
 
 -- ---- one place passed twice to be changed
+-- var p = Pair(a: File(fd: 1), b: File(fd: 2)); swap2(&p.a, &p.a)
 
 abbrev pub pair_decl : Decl
 pair_decl =
@@ -323,6 +331,7 @@ unfolding types_declared
 lent_apart = refl
 
 -- ---- closures
+-- each(1) { k in take(f) }, and edit(&f, { f = File(fd: 9) })
 
 abbrev pub main_closures : TStm → TBody
 main_closures s = body_of body.Function [] type.Unit false 2806 3201 (blk 2813 3201 (let_in (node 2903) 0 (new 2911) ∷ s ∷ []))
@@ -374,6 +383,7 @@ unfolding types_declared
 captured_is_assigned_inside = refl
 
 -- ---- `self` is discarded while a `switch` borrows it
+-- consuming func drop() { switch self { case let k: discard self; print(k.n) } }
 
 abbrev pub is_some : List TStm → Bool
 is_some [] = false
