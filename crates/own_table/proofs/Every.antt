@@ -128,7 +128,7 @@ if_true false x = []
 in_if : {A : Type 0} (b : Bool) (x : A) → b ≡ true → In (if_true b x) x
 in_if b x e = subst (λ c. In (if_true c x) x) (sym e) (inl refl)
 
-so_both : (a b : Bool) → a ≡ true → b ≡ true → (a && b) ≡ true
+pub so_both : (a b : Bool) → a ≡ true → b ≡ true → (a && b) ≡ true
 so_both a b e f = ap (λ x. x && b) e ∙ f
 
 abbrev pub is_end : OpKind → Bool
@@ -472,7 +472,7 @@ has_no_loop (continue_at s) = true
 has_no_loop (return_at s) = true
 has_no_loop halt = true
 
-abbrev IsSo : Bool → Type 0
+abbrev pub IsSo : Bool → Type 0
 IsSo true = Unit {0}
 IsSo false = ⊥
 

@@ -2,9 +2,9 @@
 use Rattle.std.proofs.Common.{refl}
 use Rattle.own_tree.specs.declared.graph.LeafFact.TheVariants as fact
 use Rattle.own_table.specs.Findings.{IsPathFinding, IsFixedFinding, IsFinding}
-use Rattle.own_table.specs.Laws.{ShapesUnfold, LeavesAreApart, OpenedLeavesAreApart, PartsAreNoLarger, PlacesAreOrdered, FindingsAreOrdered, FindingsHaveOneCause, SoundBreaksNothing, FindingsAreOneList, PathFindingsAreOneList, FixedFindingsAreOneList, LeavesHaveOneFact, TracesStay, TracesGoOn, TracesExist, TracesSplit}
+use Rattle.own_table.specs.Laws.{ShapesUnfold, LeavesAreApart, OpenedLeavesAreApart, PartsAreNoLarger, PartsOfLeavesHaveNone, PlacesAreOrdered, FindingsAreOrdered, FindingsHaveOneCause, SoundBreaksNothing, FindingsAreOneList, PathFindingsAreOneList, FixedFindingsAreOneList, LeavesHaveOneFact, TracesStay, TracesGoOn, TracesExist, TracesSplit}
 use Rattle.own_table.proofs.Causes.{one_cause}
-use Rattle.own_table.proofs.Leaves.{leaves_are_apart as apart, opened_leaves_are_apart as opened_apart, parts_are_no_larger as no_larger}
+use Rattle.own_table.proofs.Leaves.{leaves_are_apart as apart, opened_leaves_are_apart as opened_apart, parts_are_no_larger as no_larger, parts_of_leaves_have_none as none_below}
 use Rattle.own_table.proofs.Orders.{places_are_ordered as places, findings_are_ordered as findings, one_list}
 use Rattle.own_table.proofs.Sound.{breaks_nothing}
 use Rattle.own_table.proofs.Unfolding.{shapes_unfold as by_declaration}
@@ -21,6 +21,9 @@ opened_leaves_are_apart s p q a b h = opened_apart s p q a b h
 
 pub parts_are_no_larger : PartsAreNoLarger
 parts_are_no_larger ss k = no_larger ss k
+
+pub parts_of_leaves_have_none : PartsOfLeavesHaveNone
+parts_of_leaves_have_none types k b o leaf breaks i = none_below types k b o leaf breaks i
 
 pub places_are_ordered : PlacesAreOrdered
 places_are_ordered = places

@@ -174,6 +174,7 @@ module _ (types : Types) (body_number : ℕ) where
   abbrev pub breaks_O8 : Binding → Op → Bool
   breaks_O8 b o = is_consume o.kind && lies_in_leaf o.place (binding_leaves types b)
 
+  -- an Assign or an Inout of what cannot change, by its binding or through a `let` property
   abbrev pub breaks_O9 : Binding → Op → Bool
   breaks_O9 b o =
       (is_assign o.kind || is_inout o.kind)

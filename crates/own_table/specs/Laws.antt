@@ -1,20 +1,21 @@
 -- What is proved of these definitions, for contracts to cite.
-use Rattle.std.specs.Prelude.{◌≡◌, ℕ, ◌≤◌, ◌⊎◌, true, Contains, IsTrue, List, ◌++◌, slice_get, Some}
+use Rattle.std.specs.Prelude.{◌≡◌, ℕ, ◌≤◌, ◌⊎◌, true, false, Contains, IsTrue, List, ◌++◌, slice_get, Some}
 use Rattle.own_tree.specs.declared.finding.Finding.{Finding}
 use Rattle.own_tree.specs.declared.finding.Rule.{Rule}
 use Rattle.own_tree.specs.declared.span.Span.{Span}
 use Rattle.own_tree.specs.declared.graph.LeafFact.{LeafFact}
 use Rattle.own_tree.specs.declared.op.Op.{Op}
+use Rattle.own_tree.specs.declared.place.Binding.{Binding}
 use Rattle.own_tree.specs.declared.place.Place.{Place}
 use Rattle.own_tree.specs.declared.place.Ty.TheVariants as type
 use Rattle.own_tree.specs.OpSource.{Ops, next}
 use Rattle.own_tree.specs.TypedSource.{TBody, Program}
 use Rattle.own_table.specs.Facts.{IsFact}
 use Rattle.own_table.specs.Findings.{Precedes, IsSameBreak, BreaksAtOp, BreaksAtReturn, FallsOff, IsBodyFinding, ArePathFindings, AreFixedFindings, AreFindings, IsSound}
-use Rattle.own_table.specs.Fixed.{fixed_breaks}
+use Rattle.own_table.specs.Fixed.{binding_leaves, breaks_O8, place_of, fixed_breaks}
 use Rattle.own_table.specs.Makers.{BodyUses, uses_of}
 use Rattle.own_table.specs.Ops.{has_result}
-use Rattle.own_table.specs.Places.{is_prefix, PlaceBefore}
+use Rattle.own_table.specs.Places.{is_prefix, covers, PlaceBefore}
 use Rattle.own_table.specs.Traces.{Completion, goes_on, breaks, continues, returns, halts, cut, IsTrace}
 use Rattle.own_table.specs.Types.{Types, Shape, Shapes, leaves, opened_leaves, slots, all_slots, shape_at, Declared, declared_shape, types_declared, NoneContainsItself}
 
@@ -48,6 +49,12 @@ LeavesAreApart = (s : Shape) (p q : List ℕ) → Contains (leaves s) p → Cont
 -- nor one of `self` in `init`
 abbrev pub OpenedLeavesAreApart : Type 0
 OpenedLeavesAreApart = (s : Shape) (p q : List ℕ) → Contains (opened_leaves s) p → Contains (opened_leaves s) q → IsTrue (is_prefix p q) → p ≡ q
+
+-- a Consume of a part of a leaf has no leaf at its place or below it
+abbrev pub PartsOfLeavesHaveNone : Type 0
+PartsOfLeavesHaveNone =
+    (types : Types) (k : ℕ) (b : Binding) (o : Op) (leaf : List ℕ) → IsTrue (breaks_O8 types k b o) → Contains (binding_leaves types b) leaf
+    → covers o.place (place_of o.place.binding leaf) ≡ false
 
 -- a part has no more slots than the struct or the case that it is in
 abbrev pub PartsAreNoLarger : Type 0

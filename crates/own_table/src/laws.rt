@@ -1,6 +1,6 @@
 //! Laws of the definitions. Each function does nothing; its contract is the law.
 
-ghost use Rattle.own_table.specs.Laws.{FindingsAreOneList, FindingsAreOrdered, FindingsHaveOneCause, FixedFindingsAreOneList, LeavesAreApart, LeavesHaveOneFact, OpenedLeavesAreApart, PartsAreNoLarger, PathFindingsAreOneList, PlacesAreOrdered, ShapesUnfold, SoundBreaksNothing, TracesExist, TracesGoOn, TracesSplit, TracesStay};
+ghost use Rattle.own_table.specs.Laws.{FindingsAreOneList, FindingsAreOrdered, FindingsHaveOneCause, FixedFindingsAreOneList, LeavesAreApart, LeavesHaveOneFact, OpenedLeavesAreApart, PartsAreNoLarger, PartsOfLeavesHaveNone, PathFindingsAreOneList, PlacesAreOrdered, ShapesUnfold, SoundBreaksNothing, TracesExist, TracesGoOn, TracesSplit, TracesStay};
 
 /// Where no type contains itself, a declared type has the shape of its declaration.
 pub fn shapes_unfold()
@@ -15,6 +15,11 @@ pub fn leaves_are_apart()
 /// No leaf of `self` in `init` lies at or below another one.
 pub fn opened_leaves_are_apart()
     ensures { OpenedLeavesAreApart }
+{}
+
+/// A Consume that breaks O8 has no leaf at its place or below it, so there is none that it could end.
+pub fn parts_of_leaves_have_none()
+    ensures { PartsOfLeavesHaveNone }
 {}
 
 /// A part has no more slots than what it is in.
