@@ -1,0 +1,13 @@
+pub mod Types
+pub mod Within
+pub mod Captures
+pub mod Ops
+pub mod Places
+pub mod Traces
+pub mod Fixed
+pub mod Makers
+pub mod Findings
+pub mod Facts
+pub mod Limits
+pub mod BodyLimits
+pub mod Laws
