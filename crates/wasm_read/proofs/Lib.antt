@@ -19,4 +19,5 @@ pub mod ExactMain
 pub mod ExactModule
 pub mod ModuleLaws
 pub mod AnswerLaws
+pub mod NameSet
 mod Examples

@@ -3,6 +3,7 @@ pub mod Reading
 pub mod Types
 pub mod Codes
 pub mod Entries
+pub mod Names
 pub mod Sections
 pub mod Answers
 pub mod Laws

@@ -1,8 +1,8 @@
 //! Functions, globals and exports (Core 1.0, 5.5.6, 5.5.9 and 5.5.10).
 
-ghost use Rattle.std.specs.Prelude.{◌≡◌, [], length};
-ghost use Rattle.std.specs.List.{list_any};
-ghost use Rattle.std.specs.Str.{bytes_eq};
+ghost use Rattle.std.specs.Prelude.{◌≡◌, List, [], ◌∷◌, ◌++◌, length, IfOk};
+ghost use Rattle.wasm_form.specs.declared.module.Export.{Export};
+ghost use Rattle.wasm_read.specs.Names.{AreNames};
 ghost use Rattle.wasm_read.specs.Reading.{Gives, list_at, index_at};
 ghost use Rattle.wasm_read.specs.Entries.{functions_at, strange_of, expression_end_at, offset_at, initial_at, mutable_at, global_at, globals_at, kind_at, count_of, exported_at, export_at, exports_at};
 
@@ -14,6 +14,7 @@ use crate::opcodes::is_floating;
 use crate::types::{self, value_type_of};
 use own_tree::{Bytes, Row};
 use std::alloc::Global;
+use std::collections::BTreeSet;
 use wasm_form::limits::{MOST_EXPORTS, MOST_FUNCTIONS, MOST_GLOBALS, ModuleLimit, Outside};
 use wasm_form::{Export, ExportKind, GlobalEntry, Value};
 
@@ -197,7 +198,8 @@ fn exported_of<'a>(
     name: &[u8],
     bytes: &'a [u8],
 ) -> Result<(Export, &'a [u8]), Stop>
-    ensures { Gives (λ x. (x.0, x.1.now)) result (exported_at counts name.now bytes.now) }
+    ensures gives { Gives (λ x. (x.0, x.1.now)) result (exported_at counts name.now bytes.now) }
+    ensures named { IfOk result (λ x. x.0.name ≡ name.now) }
 {
     let (kind, rest) = kind_of(bytes)?;
     let (index, rest) = index_of(rest, counts.of(kind))?;
@@ -205,28 +207,24 @@ fn exported_of<'a>(
     Ok((Export { name, kind, index }, rest))
 }
 
-/// An export, of another name than those before it.
+/// An export, of another name than those before it, which it joins.
 #[tactic(auto, unfolding(crate::specs::Entries::export_at))]
 fn export_of<'a>(
     alloc: Global,
     counts: Counts,
-    before: &[Export],
+    names: &mut BTreeSet<&'a [u8]>,
     bytes: &'a [u8],
 ) -> Result<(Export, &'a [u8]), Stop>
-    ensures { Gives (λ x. (x.0, x.1.now)) result (export_at counts before.now bytes.now) }
+    ensures gives { (before : List Export) → AreNames names.old.keys before →
+        Gives (λ x. (x.0, x.1.now)) result (export_at counts before bytes.now) }
+    ensures joins { IfOk result (λ x. (before : List Export) → AreNames names.old.keys before →
+        AreNames names.new.keys (before ++ x.0 ∷ [])) }
 {
     let (name, rest) = name_of(bytes)?;
-    if is_exported(before, name) {
+    if !names.insert(name)? {
         return Err(Stop::at(Fault::NotModule, bytes));
     }
     exported_of(alloc, counts, name, rest)
-}
-
-/// Whether one of the exports has this name.
-fn is_exported(exports: &[Export], name: &[u8]) -> bool
-    ensures { result ≡ list_any (λ e. bytes_eq e.name name.now) exports.now }
-{
-    exports.iter().any(|export| export.name.as_slice() == name)
 }
 
 fn export_list_of(
@@ -238,9 +236,10 @@ fn export_list_of(
     ensures { Gives (λ x. (x.0, x.1.now)) result (list_at (export_at counts) [] count bytes.now) }
 {
     let mut exports = Vec::with_capacity(alloc, (count as usize).min(bytes.len()))?;
+    let mut names = BTreeSet::new(alloc);
     let mut rest = bytes;
     for _ in 0..count {
-        let (export, after) = export_of(alloc, counts, exports.as_slice(), rest)?;
+        let (export, after) = export_of(alloc, counts, &mut names, rest)?;
         exports.push(export)?;
         rest = after;
     }
