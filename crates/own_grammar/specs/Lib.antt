@@ -1,0 +1,5 @@
+pub mod Tests
+pub mod Nesting
+pub mod Spells
+pub mod Partial
+pub mod Reading
