@@ -107,7 +107,7 @@ pub name_span : (ts : Toks) (n : Name) → name_at ts ≡ Some n → n.span ≡ 
 unfolding name_at
 name_span ts n e = ap (λ (m : Name). m.span) (name_kind_in (here ts) (kind_at ts) n e).1
 
-pub truth_word : Bool → Word
+unfoldable pub truth_word : Bool → Word
 truth_word true = word.True
 truth_word false = word.False
 
@@ -131,7 +131,7 @@ pub truth_kind : (ts : Toks) (b : Bool) → truth_at ts ≡ Some b → kind_at t
 unfolding truth_at
 truth_kind ts b e = truth_kind_in (kind_at ts) b e
 
-pub root_kind_of : Root → Kind
+unfoldable pub root_kind_of : Root → Kind
 root_kind_of (Named n) = kind.Name n.text
 root_kind_of (SelfWord s) = kind.Word word.SelfValue
 
@@ -157,7 +157,7 @@ pub root_kind : (ts : Toks) (r : Root) → root_at ts ≡ Some r → kind_at ts 
 unfolding root_at
 root_kind ts r e = root_kind_in (here ts) (kind_at ts) r e
 
-pub binder_kind_of : Option Name → Kind
+unfoldable pub binder_kind_of : Option Name → Kind
 binder_kind_of (Some n) = kind.Name n.text
 binder_kind_of None = kind.Mark mark.Underscore
 
@@ -183,7 +183,7 @@ pub binder_kind : (ts : Toks) (n : Option Name) → binder_at ts ≡ Some n → 
 unfolding binder_at
 binder_kind ts n e = binder_kind_in (here ts) (kind_at ts) n e
 
-pub keyword_word : Keyword → Word
+unfoldable pub keyword_word : Keyword → Word
 keyword_word keyword.Let = word.Let
 keyword_word keyword.Var = word.Var
 
@@ -267,7 +267,7 @@ label_name ts n e = (if_some (is_mark mark.Colon (after ts)) (name_at ts) n e).1
 
 -- ---- operators
 
-pub operator_mark : BinaryOperator → Mark
+unfoldable pub operator_mark : BinaryOperator → Mark
 operator_mark operator.Or = mark.Or
 operator_mark operator.And = mark.And
 operator_mark operator.Equal = mark.Equal
@@ -325,7 +325,7 @@ pub no_operator : (ts : Toks) (x : Option Kind) → kind_at ts ≡ x → operato
 unfolding operator_at
 no_operator ts x e isnt = if_none (is_even ts) (operator_in (kind_at ts)) (rw e isnt)
 
-pub prefix_mark : PrefixOperator → Mark
+unfoldable pub prefix_mark : PrefixOperator → Mark
 prefix_mark sign.Minus = mark.Minus
 prefix_mark sign.Not = mark.Not
 
@@ -383,7 +383,7 @@ pub negative_no_unary : (tight : Bool) (ts : Toks) (n : ℕ) → negative_at tig
 unfolding unary_at
 negative_no_unary tight ts n e = rw e refl
 
-pub range_mark : RangeOperator → Mark
+unfoldable pub range_mark : RangeOperator → Mark
 range_mark range.HalfOpen = mark.HalfOpenRange
 range_mark range.Closed = mark.ClosedRange
 
@@ -407,7 +407,7 @@ pub range_kind : (ts : Toks) (o : RangeOperator) → range_at ts ≡ Some o → 
 unfolding range_at
 range_kind ts o e = range_kind_in (kind_at ts) o e
 
-pub assign_mark : AssignOperator → Mark
+unfoldable pub assign_mark : AssignOperator → Mark
 assign_mark assigning.Plain = mark.Assign
 assign_mark assigning.Plus = mark.PlusAssign
 assign_mark assigning.Minus = mark.MinusAssign
