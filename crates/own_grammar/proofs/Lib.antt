@@ -1,2 +1,6 @@
 pub mod Facts
 pub mod Edges
+pub mod Steps
+pub mod Lists
+pub mod Lengths
+pub mod Patterns
