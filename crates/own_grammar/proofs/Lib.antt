@@ -3,4 +3,5 @@ pub mod Edges
 pub mod Steps
 pub mod Lists
 pub mod Lengths
+pub mod Paths
 pub mod Patterns
