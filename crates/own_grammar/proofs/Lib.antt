@@ -5,3 +5,4 @@ pub mod Lists
 pub mod Lengths
 pub mod Paths
 pub mod Patterns
+pub mod PatternsRead

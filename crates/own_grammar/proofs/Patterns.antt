@@ -150,7 +150,7 @@ module _ (R : PatternReader) (opened : (g : PatternGoal) (ts : Toks) → R g ts 
     more no_pats = more_none
     more (pat q ps) = more_pat q ps (good q) (more ps)
 
-  all_are : (ps : Pats) (from to : Toks) → SpellsPats ps from to → is_mark mark.OpenParen to ≡ false → is_mark mark.Comma to ≡ false → R (patterns_on []) from ≡ Ok (pats_in ps, to)
+  pub all_are : (ps : Pats) (from to : Toks) → SpellsPats ps from to → is_mark mark.OpenParen to ≡ false → is_mark mark.Comma to ≡ false → R (patterns_on []) from ≡ Ok (pats_in ps, to)
   unfolding pattern_step
   all_are no_pats from to sp paren comma = absurd sp
   all_are (pat p ps) from to sp paren comma = opened (patterns_on []) from ∙ more ps p (good p) [] from to sp paren comma
