@@ -9,6 +9,8 @@ use Rattle.own_tree.specs.declared.token.Kind.TheVariants as kind
 use Rattle.own_tree.specs.declared.tree.Name.{Name}
 use Rattle.own_tree.specs.declared.tree.Root.{Root}
 use Rattle.own_tree.specs.declared.tree.Root.TheVariants.{Named, SelfWord}
+use Rattle.own_tree.specs.declared.tree.Keyword.{Keyword}
+use Rattle.own_tree.specs.declared.tree.Keyword.TheVariants as keyword
 use Rattle.own_tree.specs.declared.tree.PrefixOperator.{PrefixOperator}
 use Rattle.own_tree.specs.declared.tree.PrefixOperator.TheVariants as sign
 use Rattle.own_tree.specs.declared.tree.BinaryOperator.{BinaryOperator}
@@ -22,7 +24,8 @@ use Rattle.own_grammar.specs.declared.Context.TheVariants.{Plain, Condition, Ins
 use Rattle.own_grammar.specs.Tests.{Toks, after, kind_at, mark_is, is_mark, word_is, is_word, name_at, number_at, text_at, truth_at, root_at, binder_at, keyword_in, keyword_at, operator_in, operator_at, negative_at, unary_at, range_at, assign_in, assign_at, is_new_line, assigns, annotates, joins, allows, opens, closes, is_none, is_over, goes_on, ends, is_bare, label_at}
 use Rattle.own_grammar.specs.Nesting.{level}
 use Rattle.own_grammar.specs.Spells.{ends_after, Sep}
-use Rattle.own_grammar.proofs.Facts.{and_true, and_false, not_true, or_false, or_true, if_none, number_kind, text_kind, name_kind, truth_word, truth_kind, root_kind_of, root_kind, mark_kind, word_kind, at_mark, at_word, operator_mark, operator_kind, no_operator, prefix_mark, negative_kind, unary_kind, range_mark, range_kind, assign_mark, assign_kind}
+use Rattle.own_grammar.specs.Reading.{ends_clause}
+use Rattle.own_grammar.proofs.Facts.{and_true, and_false, not_true, or_false, or_true, if_none, number_kind, text_kind, name_kind, truth_word, truth_kind, root_kind_of, root_kind, keyword_word, keyword_kind, name_named, mark_kind, word_kind, at_mark, at_word, operator_mark, operator_kind, no_operator, prefix_mark, negative_kind, unary_kind, range_mark, range_kind, assign_mark, assign_kind}
 
 -- ---- how an expression begins
 
@@ -66,11 +69,11 @@ unfolding prefix_mark
 starts_prefix sign.Minus = refl
 starts_prefix sign.Not = refl
 
-tells : (b : Bool) → (b ≡ true) ⊎ (b ≡ false)
+pub tells : (b : Bool) → (b ≡ true) ⊎ (b ≡ false)
 tells true = inl refl
 tells false = inr refl
 
-clash : (b : Bool) → b ≡ true → b ≡ false → ⊥
+pub clash : (b : Bool) → b ≡ true → b ≡ false → ⊥
 clash true e f = absurd cc
 clash false e f = absurd cc
 
@@ -396,3 +399,46 @@ pub no_semicolon : (ts : Toks) → (kind_at ts ≡ Some (kind.Mark mark.Semicolo
 no_semicolon ts isnt = elim (tells (is_mark mark.Semicolon ts)) [
     inl y ↦ absurd (isnt (mark_kind mark.Semicolon ts y))
   | inr y ↦ y ]
+
+-- ---- tests at a token of a known kind
+
+pub at_keyword : (ts : Toks) (x : Option Kind) → kind_at ts ≡ x → keyword_at ts ≡ keyword_in x
+unfolding keyword_at
+at_keyword ts x e = rw e refl
+
+pub not_annotates : (ts : Toks) (x : Option Kind) → kind_at ts ≡ x → mark_is mark.Colon x ≡ false → annotates ts ≡ false
+unfolding annotates
+not_annotates ts x e isnt = rw (at_mark mark.Colon ts x e, isnt) refl
+
+pub name_binder : (ts : Toks) (n : Name) → name_at ts ≡ Some n → binder_at ts ≡ Some (Some n)
+unfolding binder_at
+name_binder ts n e = rw (name_kind ts n e) (ap (λ (m : Name). Some (Some m)) (sym (name_named ts n e)))
+
+pub mark_no_binder : (ts : Toks) → kind_at ts ≡ Some (kind.Mark mark.Underscore) → binder_at ts ≡ Some None
+unfolding binder_at
+mark_no_binder ts e = rw e refl
+
+pub not_clause : (ts : Toks) (x : Option Kind) → kind_at ts ≡ x → word_is word.Case x ≡ false → word_is word.Default x ≡ false → mark_is mark.CloseBrace x ≡ false → ends_clause ts ≡ false
+unfolding ends_clause
+not_clause ts x e a b c = rw (at_word word.Case ts x e, a, at_word word.Default ts x e, b, at_mark mark.CloseBrace ts x e) c
+
+pub start_no_clause : (ts : Toks) → can_start (kind_at ts) ≡ true → ends_clause ts ≡ false
+unfolding ends_clause
+start_no_clause ts st = rw (no_word word.Case ts refl st, no_word word.Default ts refl st) (no_mark mark.CloseBrace ts refl st)
+
+keyword_not : (k : Keyword) → (word_is word.Case (Some (kind.Word (keyword_word k))) ≡ false) × (word_is word.Default (Some (kind.Word (keyword_word k))) ≡ false)
+unfolding keyword_word
+keyword_not keyword.Let = (refl, refl)
+keyword_not keyword.Var = (refl, refl)
+
+pub keyword_no_clause : (ts : Toks) (k : Keyword) → keyword_at ts ≡ Some k → ends_clause ts ≡ false
+keyword_no_clause ts k e = let w = keyword_not k in not_clause ts _ (keyword_kind ts k e) w.0 w.1 refl
+
+third : (a b c : Bool) → cond a true (cond b true c) ≡ false → c ≡ false
+third true b c e = absurd cc
+third false true c e = absurd cc
+third false false c e = e
+
+pub no_brace : (ts : Toks) → ends_clause ts ≡ false → is_mark mark.CloseBrace ts ≡ false
+unfolding ends_clause
+no_brace ts e = third (is_word word.Case ts) (is_word word.Default ts) _ e

@@ -102,6 +102,10 @@ pub name_kind : (ts : Toks) (n : Name) → name_at ts ≡ Some n → kind_at ts 
 unfolding name_at
 name_kind ts n e = (name_kind_in (here ts) (kind_at ts) n e).0
 
+pub name_named : (ts : Toks) (n : Name) → name_at ts ≡ Some n → n ≡ named (here ts) n.text
+unfolding name_at
+name_named ts n e = (name_kind_in (here ts) (kind_at ts) n e).1
+
 -- a name has the span of its token
 pub name_span : (ts : Toks) (n : Name) → name_at ts ≡ Some n → n.span ≡ here ts
 unfolding name_at

@@ -6,3 +6,5 @@ pub mod Lengths
 pub mod Paths
 pub mod Patterns
 pub mod PatternsRead
+pub mod Complete
+pub mod CompleteStatements

@@ -1,0 +1,289 @@
+-- What is spelled so is read so: expressions and arguments.
+use Rattle.std.proofs.Common.{◌≡◌, ℕ, zero, suc, ◌+◌, ◌≤◌, ◌<◌, Bool, cond, eqb, ltb, max, true, false, ◌&&◌, List, [], ◌∷◌, ◌++◌, length, Option, Some, None, Result, Ok, Err, ◌⊎◌, inl, inr, refl, sym, ap, ◌∙◌, append_assoc, arith}
+use Rattle.std.proofs.lemmas.Bool.{lt-ltb, ne_eqb}
+use Rattle.std.proofs.lemmas.Bool.Decides.{eqb_tells}
+use Rattle.own_tree.specs.declared.span.Span.{Span}
+use Rattle.own_tree.specs.declared.token.Kind.{Kind}
+use Rattle.own_tree.specs.declared.token.Kind.TheVariants as kind
+use Rattle.own_tree.specs.declared.token.Mark.{Mark}
+use Rattle.own_tree.specs.declared.token.Mark.TheVariants as mark
+use Rattle.own_tree.specs.declared.token.Word.TheVariants as word
+use Rattle.own_tree.specs.declared.tree.Name.{Name}
+use Rattle.own_tree.specs.declared.tree.Path.{Path}
+use Rattle.own_tree.specs.declared.tree.Root.{Root}
+use Rattle.own_tree.specs.declared.tree.Root.TheVariants.{Named, SelfWord}
+use Rattle.own_tree.specs.declared.tree.PrefixOperator.{PrefixOperator}
+use Rattle.own_tree.specs.declared.tree.BinaryOperator.{BinaryOperator}
+use Rattle.own_tree.specs.declared.tree.BinaryOperator.TheVariants as operator
+use Rattle.own_tree.specs.Source.{Exp, number, text, truth, path, implicit_member, parenthesized, consumed, prefix, binary, choice, member, call, call_closing, call_closure, Given, value, address, closing, Args, no_args, arg, Clo, closure}
+use Rattle.own_tree.specs.View.{Arg, args_of}
+use Rattle.own_grammar.specs.declared.Context.{Context}
+use Rattle.own_grammar.specs.declared.Context.TheVariants.{Plain, Condition, Inside}
+use Rattle.own_grammar.specs.Tests.{Toks, after, here, till, kind_at, is_mark, is_word, name_at, number_at, text_at, truth_at, root_at, operator_at, prefix_in, negative_at, unary_at, opens, closes, label_at, word_is}
+use Rattle.own_grammar.specs.Nesting.{exp_span, clo_span, level, chains, level_of, is_post, is_path, is_call, nest, nest_given, nest_args, nest_clo}
+use Rattle.own_grammar.specs.Spells.{IsLeft, Labels, SpellsCase, SpellsPath, SpellsE, SpellsG, SpellsA, SpellsK}
+use Rattle.own_grammar.specs.Reading.{Fault, Syntax, Depth, Read, ◌>>=◌, syntax_at, depth_at, on_some, Goal, expression, operand, operators_on, calls_on, arguments_on, Out, Reader, path_from, path_with, parenthesized_with, implicit_with, literal_in, literal_at, primary_with, post_with, prefix_with, consume_with, pre_with, level_with, next_with, operator_with, operators_with, branches_with, choice_with, expression_with, closure_with, address_with, given_with, argument_with, arguments_with, all_arguments_with, called_with, call_with, closing_with, member_with, calls_with, step}
+use Rattle.own_grammar.proofs.Facts.{number_kind, text_kind, name_kind, truth_kind, truth_word, root_kind, root_kind_of, mark_kind, word_kind, at_mark, at_word, opens_kind, closes_kind, label_name, prefix_mark, unary_kind, negative_kind, no_negative, no_unary, negative_no_unary}
+use Rattle.own_grammar.proofs.Edges.{can_start, starts_at, starts_truth, starts_root, starts_prefix, no_word, no_mark, clash, level_in, Stops, stops_at, stops_brace, stops_question, stops_operator, not_opens, not_closes, weaker}
+use Rattle.own_grammar.proofs.Steps.{bind_is, le_tells}
+use Rattle.own_grammar.proofs.Lists.{args_in, args_list}
+use Rattle.own_grammar.proofs.Paths.{path_from_is, path_is}
+
+pub level_bounds : (o : BinaryOperator) → (1 ≤ level o) × (level o ≤ 5)
+level_bounds operator.Or = (omega arith, omega arith)
+level_bounds operator.And = (omega arith, omega arith)
+level_bounds operator.Equal = (omega arith, omega arith)
+level_bounds operator.Unequal = (omega arith, omega arith)
+level_bounds operator.Less = (omega arith, omega arith)
+level_bounds operator.LessEqual = (omega arith, omega arith)
+level_bounds operator.Greater = (omega arith, omega arith)
+level_bounds operator.GreaterEqual = (omega arith, omega arith)
+level_bounds operator.Plus = (omega arith, omega arith)
+level_bounds operator.Minus = (omega arith, omega arith)
+level_bounds operator.PlusWrapping = (omega arith, omega arith)
+level_bounds operator.MinusWrapping = (omega arith, omega arith)
+level_bounds operator.Times = (omega arith, omega arith)
+level_bounds operator.Divide = (omega arith, omega arith)
+level_bounds operator.Remainder = (omega arith, omega arith)
+level_bounds operator.TimesWrapping = (omega arith, omega arith)
+
+-- ---- literals and roots
+
+literal_number : (ts : Toks) (n : ℕ) → kind_at ts ≡ Some (kind.Number n) → literal_at ts ≡ Some (number (here ts) false n)
+unfolding literal_at
+literal_number ts n e = rw e refl
+
+literal_text : (ts : Toks) (t : List ℕ) → kind_at ts ≡ Some (kind.Text t) → literal_at ts ≡ Some (text (here ts) t)
+unfolding literal_at
+literal_text ts t e = rw e refl
+
+literal_truth : (ts : Toks) (b : Bool) → truth_at ts ≡ Some b → literal_at ts ≡ Some (truth (here ts) b)
+unfolding literal_at
+literal_truth ts b e = rw (truth_kind ts b e, e) refl
+
+literal_mark : (ts : Toks) (x : Mark) → kind_at ts ≡ Some (kind.Mark x) → literal_at ts ≡ None
+unfolding literal_at
+literal_mark ts x e = rw e refl
+
+pub literal_root : (r : Root) (ts : Toks) → root_at ts ≡ Some r → literal_at ts ≡ None
+unfolding literal_at truth_at root_kind_of
+literal_root (Named n) ts e = rw (root_kind ts (Named n) e) refl
+literal_root (SelfWord s) ts e = rw (root_kind ts (SelfWord s) e) refl
+
+root_mark : (x : Mark) (ts : Toks) → kind_at ts ≡ Some (kind.Mark x) → root_at ts ≡ None
+unfolding root_at
+root_mark x ts e = rw e refl
+
+root_facts : (r : Root) → (prefix_in (Some (root_kind_of r)) ≡ None) × (word_is word.Consume (Some (root_kind_of r)) ≡ false)
+unfolding root_kind_of
+root_facts (Named n) = (refl, refl)
+root_facts (SelfWord s) = (refl, refl)
+
+truth_facts : (b : Bool) → word_is word.Consume (Some (kind.Word (truth_word b))) ≡ false
+unfolding truth_word
+truth_facts true = refl
+truth_facts false = refl
+
+module _ (most : ℕ) (R : Reader) (opened : (g : Goal) (d : ℕ) (ts : Toks) → R g d ts ≡ step most R g d ts) where
+
+  -- ---- where the loops stop
+
+  stop_by : (j : ℕ) (context : Context) (e : Exp) (d : ℕ) (ts : Toks) (x : Option BinaryOperator) → suc j < level_in x → on_some x (operator_with most R j context e d ts) (Ok (e, ts)) ≡ Ok (e, ts)
+  unfolding operator_with
+  stop_by j context e d ts None lt = refl
+  stop_by j context e d ts (Some o) lt = rw (ne_eqb (level o) (suc j) (λ same. omega (arith, lt, same))) refl
+
+  operators_stop : (j : ℕ) (context : Context) (e : Exp) (d : ℕ) (ts : Toks) → suc j < level_in (operator_at ts) → R (operators_on j context e) d ts ≡ Ok (e, ts)
+  unfolding step operators_with
+  operators_stop j context e d ts lt = opened (operators_on j context e) d ts ∙ stop_by j context e d ts (operator_at ts) lt
+
+  same_level : (o : BinaryOperator) (j : ℕ) → level o ≡ suc j → eqb (level o) (suc j) ≡ true
+  same_level o j e = elim (eqb_tells (level o) (suc j)) [ inl y ↦ y.0 | inr n ↦ absurd (n.1 e) ]
+
+  operators_step : (j : ℕ) (context : Context) (a : Exp) (d : ℕ) (ts : Toks) (o : BinaryOperator) → operator_at ts ≡ Some o → level o ≡ suc j → d + nest a < most
+      → R (operators_on j context a) d ts ≡ (level_with most R j context (d + 1) (after ts) >>= λ b. next_with R (chains (suc j)) j context d (binary (till (exp_span a) (exp_span b.0)) o (here ts) a b.0) b.1)
+  unfolding step operators_with operator_with
+  operators_step j context a d ts o is same lt = opened (operators_on j context a) d ts ∙ rw (is, same_level o j same, lt-ltb _ _ lt) refl
+
+  calls_stop : (context : Context) (f : Exp) (d : ℕ) (ts : Toks) → opens context ts ≡ false → closes context ts ≡ false → is_mark mark.Dot ts ≡ false → R (calls_on context f) d ts ≡ Ok (f, ts)
+  unfolding step calls_with
+  calls_stop context f d ts e c p = opened (calls_on context f) d ts ∙ rw (e, c, p) refl
+
+  next_stop : (b : Bool) (j : ℕ) (context : Context) (e : Exp) (d : ℕ) (ts : Toks) → suc j < level_in (operator_at ts) → next_with R b j context d e ts ≡ Ok (e, ts)
+  unfolding next_with
+  next_stop true j context e d ts lt = operators_stop j context e d ts lt
+  next_stop false j context e d ts lt = refl
+
+  -- ---- what is known of an expression that is spelled
+
+  pub record Own (tight : Bool) (context : Context) (d : ℕ) (e : Exp) (from to : Toks) : Type 0 where
+    pub begins : can_start (kind_at from) ≡ true
+    pub unled : is_post e ≡ true → (unary_at tight from ≡ None) × (is_word word.Consume from ≡ false)
+    pub post : is_post e ≡ true → (is_call e ≡ true → closes context to ≡ false) → (is_path e ≡ true → is_mark mark.Dot to ≡ false) → post_with R tight context d from ≡ R (calls_on context e) d to
+    pub pre : level_of e ≡ 0 → Stops 0 context to → pre_with most R tight context d from ≡ Ok (e, to)
+    pub chain : tight ≡ false → (j : ℕ) → j < 5 → level_of e ≡ suc j → Stops j context to → level_with most R (suc j) context d from ≡ next_with R (chains (suc j)) j context d e to
+    pub whole : tight ≡ false → 5 < level_of e → Stops 6 context to → expression_with most R context d from ≡ Ok (e, to)
+
+  abbrev Good : Exp → Type 0
+  Good e = (tight : Bool) (context : Context) (d : ℕ) (from to : Toks) → SpellsE e tight context from to → d + nest e ≤ most → Own tight context d e from to
+
+  -- at its own level
+  at_level : (j : ℕ) (e : Exp) (context : Context) (d : ℕ) (from to : Toks) → j < 5 → Own false context d e from to → level_of e ≡ suc j → Stops (suc j) context to → level_with most R (suc j) context d from ≡ Ok (e, to)
+  at_level j e context d from to lt own is st = own.chain refl j lt is (weaker (suc j) j context to (omega arith) st) ∙ next_stop (chains (suc j)) j context e d to st.above
+
+  pub reads : (n : ℕ) (e : Exp) (context : Context) (d : ℕ) (from to : Toks) → n ≤ 5 → Own false context d e from to → level_of e ≤ n → Stops n context to → level_with most R n context d from ≡ Ok (e, to)
+  unfolding level_with
+  reads zero e context d from to small own le st = own.pre (omega arith) st
+  reads (suc j) e context d from to small own le st = elim (le_tells (level_of e) j) [
+      inl low ↦ bind_is (level_with most R j context d from) (λ x. R (operators_on j context x.0) d x.1) (e, to) (reads j e context d from to (omega (arith, small)) own low (weaker (suc j) j context to (omega arith) st)) ∙ operators_stop j context e d to st.above
+    | inr high ↦ at_level j e context d from to (omega (arith, small)) own (omega (arith, high, le)) st ]
+
+  spine_high : (o : BinaryOperator) (j : ℕ) (a : Exp) (context : Context) (d : ℕ) (from to : Toks) → j < 5 → Own false context d a from to → chains (level o) ≡ true → level o ≡ suc j → level_of a ≡ suc j → Stops j context to → level_with most R (suc j) context d from ≡ R (operators_on j context a) d to
+  unfolding next_with
+  spine_high o j a context d from to lt own ch same is st = own.chain refl j lt is st ∙ ap (λ (y : Bool). next_with R y j context d a to) (ap chains (sym same) ∙ ch)
+
+  left_level : (c : Bool) (n l j : ℕ) → IsLeft c n l → n ≡ suc j → (l ≤ j) ⊎ ((c ≡ true) × (l ≡ suc j))
+  left_level true n l j left same = elim (le_tells l j) [ inl low ↦ inl low | inr high ↦ inr (refl, omega (arith, left, same, high)) ]
+  left_level false n l j left same = inl (omega (arith, left, same))
+
+  -- what stands left of an operator
+  spine : (o : BinaryOperator) (j : ℕ) (a : Exp) (context : Context) (d : ℕ) (from to : Toks) → j < 5 → Own false context d a from to → IsLeft (chains (level o)) (level o) (level_of a) → level o ≡ suc j → Stops j context to → level_with most R (suc j) context d from ≡ R (operators_on j context a) d to
+  unfolding level_with
+  spine o j a context d from to lt own left same st = elim (left_level (chains (level o)) (level o) (level_of a) j left same) [
+      inl low ↦ bind_is (level_with most R j context d from) (λ x. R (operators_on j context x.0) d x.1) (a, to) (reads j a context d from to (omega (arith, lt)) own low st)
+    | inr high ↦ spine_high o j a context d from to lt own high.0 same high.1 st ]
+
+  no_choice : (context : Context) (d : ℕ) (e : Exp) (ts : Toks) → is_mark mark.Question ts ≡ false → choice_with most R context d e ts ≡ Ok (e, ts)
+  unfolding choice_with
+  no_choice context d e ts isnt = rw isnt refl
+
+  pub expression_is : (e : Exp) (context : Context) (d : ℕ) (from to : Toks) → Own false context d e from to → Stops 6 context to → expression_with most R context d from ≡ Ok (e, to)
+  unfolding expression_with
+  expression_is e context d from to own st = elim (le_tells (level_of e) 5) [
+      inl low ↦ bind_is (level_with most R 5 context d from) (λ c. choice_with most R context d c.0 c.1) (e, to) (reads 5 e context d from to (omega arith) own low (weaker 6 5 context to (omega arith) st)) ∙ no_choice context d e to (st.question (omega arith))
+    | inr high ↦ own.whole refl high st ]
+
+  pub expression_at : (e : Exp) (context : Context) (d : ℕ) (from to : Toks) → Good e → SpellsE e false context from to → Stops 6 context to → d + nest e ≤ most → expression_with most R context d from ≡ Ok (e, to)
+  expression_at e context d from to good sp st fit = expression_is e context d from to (good false context d from to sp fit) st
+
+  -- after a token
+  pub expression_goal : (e : Exp) (context : Context) (d : ℕ) (from to : Toks) → Good e → SpellsE e false context from to → Stops 6 context to → d + nest e ≤ most → R (expression context) d from ≡ Ok (e, to)
+  unfolding step
+  expression_goal e context d from to good sp st fit = opened (expression context) d from ∙ expression_at e context d from to good sp st fit
+
+  -- ---- each production
+
+  own_post : (e : Exp) (tight : Bool) (context : Context) (d : ℕ) (from to : Toks) → is_post e ≡ true → level_of e ≡ 0 → d < most → can_start (kind_at from) ≡ true → unary_at tight from ≡ None → is_word word.Consume from ≡ false
+      → ((is_call e ≡ true → closes context to ≡ false) → (is_path e ≡ true → is_mark mark.Dot to ≡ false) → post_with R tight context d from ≡ R (calls_on context e) d to) → Own tight context d e from to
+  unfolding pre_with
+  own_post e tight context d from to is low lt start unled kept p = record {
+    begins = start; unled = λ _. (unled, kept); post = λ _ cl dot. p cl dot;
+    pre = λ _ st. rw (lt-ltb d most lt, unled, kept) (p (λ _. st.closes) (λ _. st.dot) ∙ calls_stop context e d to st.opens st.closes st.dot);
+    chain = λ _ j less same st. absurd (omega (arith, low, same)); whole = λ _ high st. absurd (omega (arith, low, high)) }
+
+  own_pre : (e : Exp) (tight : Bool) (context : Context) (d : ℕ) (from to : Toks) → is_post e ≡ false → level_of e ≡ 0 → can_start (kind_at from) ≡ true
+      → (Stops 0 context to → pre_with most R tight context d from ≡ Ok (e, to)) → Own tight context d e from to
+  own_pre e tight context d from to isnt low start p = record {
+    begins = start; unled = λ is. absurd (clash _ is isnt); post = λ is cl dot. absurd (clash _ is isnt);
+    pre = λ _ st. p st;
+    chain = λ _ j less same st. absurd (omega (arith, low, same)); whole = λ _ high st. absurd (omega (arith, low, high)) }
+
+  own_number : (s : Span) (negative : Bool) (n : ℕ) → Good (number s negative n)
+  unfolding post_with primary_with
+  own_number s false n tight context d from to (num, is_to, is_s) fit = let k = number_kind from n num in
+      rw (is_s, is_to) (own_post (number (here from) false n) tight context d from (after from) refl refl (omega arith) (starts_at from _ k refl) (no_unary tight from _ k refl) (at_word word.Consume from _ k)
+      (λ cl dot. rw (no_negative tight from _ k refl, literal_number from n k) refl))
+  own_number s true n tight context d from to (num, is_to, is_s) fit = let k = (negative_kind tight from n num).0 in
+      rw (is_s, is_to) (own_post (number (till (here from) (here (after from))) true n) tight context d from (after (after from)) refl refl (omega arith) (starts_at from _ k refl) (negative_no_unary tight from n num) (at_word word.Consume from _ k)
+      (λ cl dot. rw num refl))
+
+  own_text : (s : Span) (t : List ℕ) → Good (text s t)
+  unfolding post_with primary_with
+  own_text s t tight context d from to (txt, is_to, is_s) fit = let k = text_kind from t txt in
+      rw (is_s, is_to) (own_post (text (here from) t) tight context d from (after from) refl refl (omega arith) (starts_at from _ k refl) (no_unary tight from _ k refl) (at_word word.Consume from _ k)
+      (λ cl dot. rw (no_negative tight from _ k refl, literal_text from t k) refl))
+
+  own_truth : (s : Span) (b : Bool) → Good (truth s b)
+  unfolding post_with primary_with
+  own_truth s b tight context d from to (tr, is_to, is_s) fit = let k = truth_kind from b tr in
+      rw (is_s, is_to) (own_post (truth (here from) b) tight context d from (after from) refl refl (omega arith) (starts_at from _ k (starts_truth b)) (no_unary tight from _ k refl) (at_word word.Consume from _ k ∙ truth_facts b)
+      (λ cl dot. rw (no_negative tight from _ k refl, literal_truth from b tr) refl))
+
+  own_path : (p : Path) → Good (path p)
+  unfolding post_with primary_with
+  own_path p tight context d from to sp fit = let k = root_kind from p.root sp.0 in let f = root_facts p.root in
+      own_post (path p) tight context d from to refl refl (omega arith) (starts_at from _ k (starts_root p.root)) (no_unary tight from _ k f.0) (at_word word.Consume from _ k ∙ f.1)
+      (λ cl dot. rw (no_negative tight from _ k f.0, literal_root p.root from sp.0, sp.0, path_from_is p from to sp (dot refl)) refl)
+
+  own_implicit : (s : Span) (n : Name) → Good (implicit_member s n)
+  unfolding post_with primary_with implicit_with
+  own_implicit s n tight context d from to (c, is_to, is_s) fit = let k = c.0 in
+      rw (is_s, is_to) (own_post (implicit_member (till (here from) (here (after from))) n) tight context d from (after (after from)) refl refl (omega arith) (starts_at from _ k refl) (no_unary tight from _ k refl) (at_word word.Consume from _ k)
+      (λ cl dot. rw (no_negative tight from _ k refl, literal_mark from _ k, root_mark _ from k, at_mark mark.Dot from _ k, c.1) refl))
+
+  own_parenthesized : (s : Span) (e : Exp) → Good e → Good (parenthesized s e)
+  unfolding post_with primary_with parenthesized_with
+  own_parenthesized s e good tight context d from to (k, mid, sp, close, is_to, is_s) fit =
+      rw (is_s, is_to) (own_post (parenthesized (till (here from) (here mid)) e) tight context d from (after mid) refl refl (omega (arith, fit)) (starts_at from _ k refl) (no_unary tight from _ k refl) (at_word word.Consume from _ k)
+      (λ cl dot. rw (no_negative tight from _ k refl, literal_mark from _ k, root_mark _ from k, at_mark mark.Dot from _ k, at_mark mark.OpenParen from _ k,
+        expression_goal e Inside (d + 1) (after from) mid good sp (stops_at 6 Inside mid _ (omega arith) close refl) (omega (arith, fit)), at_mark mark.CloseParen mid _ close) refl))
+
+  own_consumed : (s : Span) (p : Path) → Good (consumed s p)
+  unfolding pre_with consume_with
+  own_consumed s p tight context d from to (k, sp, is_s) fit =
+      rw is_s (own_pre (consumed (till (here from) p.span) p) tight context d from to refl refl (starts_at from _ k refl)
+      (λ st. rw (lt-ltb d most (omega (arith, fit)), no_unary tight from _ k refl, at_word word.Consume from _ k, lt-ltb (d + 1) most (omega (arith, fit)), path_is p (after from) to sp st.dot) refl))
+
+  operand_goal : (e : Exp) (context : Context) (d : ℕ) (from to : Toks) → Own true context d e from to → level_of e ≡ 0 → Stops 0 context to → R (operand context) d from ≡ Ok (e, to)
+  unfolding step
+  operand_goal e context d from to own low st = opened (operand context) d from ∙ own.pre low st
+
+  own_prefix : (s : Span) (o : PrefixOperator) (e : Exp) → Good e → Good (prefix s o e)
+  unfolding pre_with prefix_with
+  own_prefix s o e good tight context d from to (un, sp, low, is_s) fit =
+      rw is_s (own_pre (prefix (till (here from) (exp_span e)) o e) tight context d from to refl refl (starts_at from _ (unary_kind tight from o un) (starts_prefix o))
+      (λ st. rw (lt-ltb d most (omega (arith, fit)), un, operand_goal e context (d + 1) (after from) to (good true context (d + 1) (after from) to sp (omega (arith, fit))) low st) refl))
+
+  binary_chain : (s : Span) (o : BinaryOperator) (at_ : Span) (a b : Exp) (tight : Bool) (context : Context) (d : ℕ) (from mid to : Toks) → tight ≡ false → Own tight context d a from mid → Own false context (d + 1) b (after mid) to → IsLeft (chains (level o)) (level o) (level_of a)
+      → operator_at mid ≡ Some o → at_ ≡ here mid → level_of b < level o → s ≡ till (exp_span a) (exp_span b) → d + nest a < most → (j : ℕ) → j < 5 → level o ≡ suc j → Stops j context to
+      → level_with most R (suc j) context d from ≡ next_with R (chains (suc j)) j context d (binary s o at_ a b) to
+  binary_chain s o at_ a b true context d from mid to loose oa ob left is is_at right is_s fit j less same st = absurd cc
+  binary_chain s o at_ a b false context d from mid to loose oa ob left is is_at right is_s fit j less same st =
+      spine o j a context d from mid less oa left same (stops_operator j context mid o is (omega (arith, same)))
+      ∙ operators_step j context a d mid o is same fit
+      ∙ bind_is (level_with most R j context (d + 1) (after mid)) (λ x. next_with R (chains (suc j)) j context d (binary (till (exp_span a) (exp_span x.0)) o (here mid) a x.0) x.1) (b, to) (reads j b context (d + 1) (after mid) to (omega (arith, less)) ob (omega (arith, right, same)) st)
+      ∙ rw (is_s, is_at) refl
+
+  own_binary : (s : Span) (o : BinaryOperator) (at_ : Span) (a b : Exp) → Good a → Good b → Good (binary s o at_ a b)
+  own_binary s o at_ a b ga gb tight context d from to (mid, spa, left, is, is_at, spb, right, is_s) fit =
+      let oa = ga tight context d from mid spa (omega (arith, fit)) in
+      let ob = gb false context (d + 1) (after mid) to spb (omega (arith, fit)) in
+      let bounds = level_bounds o in
+      record {
+        begins = oa.begins;
+        unled = λ e. absurd cc;
+        post = λ e cl dot. absurd cc;
+        pre = λ e st. absurd (omega (arith, bounds.0, e));
+        chain = λ loose j less same st. binary_chain s o at_ a b tight context d from mid to loose oa ob left is is_at right is_s (omega (arith, fit)) j less same st;
+        whole = λ loose high st. absurd (omega (arith, bounds.1, high)) }
+
+  choice_whole : (s : Span) (c a b : Exp) (tight : Bool) (context : Context) (d : ℕ) (from mid last to : Toks) → tight ≡ false → Own tight context d c from mid → level_of c < 6 → kind_at mid ≡ Some (kind.Mark mark.Question)
+      → R (expression context) (d + 1) (after mid) ≡ Ok (a, last) → kind_at last ≡ Some (kind.Mark mark.Colon) → R (expression context) (d + 1) (after last) ≡ Ok (b, to) → s ≡ till (exp_span c) (exp_span b) → d + nest c < most
+      → expression_with most R context d from ≡ Ok (choice s c a b, to)
+  unfolding expression_with choice_with branches_with
+  choice_whole s c a b true context d from mid last to loose oc low q ra colon rb is_s fit = absurd cc
+  choice_whole s c a b false context d from mid last to loose oc low q ra colon rb is_s fit =
+      rw (reads 5 c context d from mid (omega arith) oc (omega (arith, low)) (stops_question 5 context mid (omega arith) q), at_mark mark.Question mid _ q, lt-ltb (d + nest c) most fit, ra, at_mark mark.Colon last _ colon, rb, is_s) refl
+
+  own_choice : (s : Span) (c a b : Exp) → Good c → Good a → Good b → Good (choice s c a b)
+  own_choice s c a b gc ga gb tight context d from to (mid, last, spc, low, q, spa, colon, spb, is_s) fit =
+      let oc = gc tight context d from mid spc (omega (arith, fit)) in
+      record {
+        begins = oc.begins;
+        unled = λ e. absurd cc;
+        post = λ e cl dot. absurd cc;
+        pre = λ e st. absurd cc;
+        chain = λ loose j less same st. absurd (omega (arith, less, same));
+        whole = λ loose high st. choice_whole s c a b tight context d from mid last to loose oc low q
+          (expression_goal a context (d + 1) (after mid) last ga spa (stops_at 6 context last _ (omega arith) colon refl) (omega (arith, fit))) colon
+          (expression_goal b context (d + 1) (after last) to gb spb st (omega (arith, fit))) is_s (omega (arith, fit)) }
