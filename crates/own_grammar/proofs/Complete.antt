@@ -19,7 +19,7 @@ use Rattle.own_tree.specs.Source.{Exp, number, text, truth, path, implicit_membe
 use Rattle.own_tree.specs.View.{Arg, args_of}
 use Rattle.own_grammar.specs.declared.Context.{Context}
 use Rattle.own_grammar.specs.declared.Context.TheVariants.{Plain, Condition, Inside}
-use Rattle.own_grammar.specs.Tests.{Toks, after, here, till, kind_at, is_mark, is_word, name_at, number_at, text_at, truth_at, root_at, operator_at, prefix_in, negative_at, unary_at, opens, closes, label_at, word_is}
+use Rattle.own_grammar.specs.Tests.{Toks, after, here, till, kind_at, is_mark, is_word, name_at, number_at, text_at, truth_at, root_at, operator_at, prefix_in, negative_at, unary_at, opens, closes, label_at, word_is, mark_is}
 use Rattle.own_grammar.specs.Nesting.{exp_span, clo_span, level, chains, level_of, is_post, is_path, is_call, nest, nest_given, nest_args, nest_clo}
 use Rattle.own_grammar.specs.Spells.{IsLeft, Labels, SpellsCase, SpellsPath, SpellsE, SpellsG, SpellsA, SpellsK}
 use Rattle.own_grammar.specs.Reading.{Fault, Syntax, Depth, Read, ◌>>=◌, syntax_at, depth_at, on_some, Goal, expression, operand, operators_on, calls_on, arguments_on, Out, Reader, path_from, path_with, parenthesized_with, implicit_with, literal_in, literal_at, primary_with, post_with, prefix_with, consume_with, pre_with, level_with, next_with, operator_with, operators_with, branches_with, choice_with, expression_with, closure_with, address_with, given_with, argument_with, arguments_with, all_arguments_with, called_with, call_with, closing_with, member_with, calls_with, step}
@@ -287,3 +287,121 @@ module _ (most : ℕ) (R : Reader) (opened : (g : Goal) (d : ℕ) (ts : Toks) �
         whole = λ loose high st. choice_whole s c a b tight context d from mid last to loose oc low q
           (expression_goal a context (d + 1) (after mid) last ga spa (stops_at 6 context last _ (omega arith) colon refl) (omega (arith, fit))) colon
           (expression_goal b context (d + 1) (after last) to gb spb st (omega (arith, fit))) is_s (omega (arith, fit)) }
+
+  -- ---- closures and arguments
+
+  abbrev GoodK : Clo → Type 0
+  GoodK c = (d : ℕ) (from to : Toks) → SpellsK c from to → d + nest_clo c ≤ most → closure_with most R d from ≡ Ok (c, to)
+
+  closure_begins : (c : Clo) (from to : Toks) → SpellsK c from to → kind_at from ≡ Some (kind.Mark mark.OpenBrace)
+  closure_begins (closure s ns ss) from to sp = sp.0
+
+  record Gives (d : ℕ) (g : Given) (from to : Toks) : Type 0 where
+    pub reads : given_with most R d from ≡ Ok (g, to)
+    pub begins : is_mark mark.CloseParen from ≡ false
+
+  abbrev GoodG : Given → Type 0
+  GoodG g = (d : ℕ) (from to : Toks) → SpellsG g from to → Stops 6 Inside to → d + nest_given g ≤ most → Gives d g from to
+
+  gives_value : (e : Exp) → Good e → GoodG (value e)
+  unfolding given_with
+  gives_value e good d from to sp st fit = let o = good false Inside d from to sp fit in record {
+    reads = rw (no_mark mark.Ampersand from refl o.begins, no_mark mark.OpenBrace from refl o.begins, expression_is e Inside d from to o st) refl;
+    begins = no_mark mark.CloseParen from refl o.begins }
+
+  gives_address : (s : Span) (p : Path) → GoodG (address s p)
+  unfolding given_with address_with
+  gives_address s p d from to (k, sp, is_s) st fit = record {
+    reads = rw (is_s, at_mark mark.Ampersand from _ k, lt-ltb d most (omega (arith, fit)), path_is p (after from) to sp st.dot) refl;
+    begins = at_mark mark.CloseParen from _ k }
+
+  gives_closure : (c : Clo) → GoodK c → GoodG (closing c)
+  unfolding given_with
+  gives_closure c good d from to sp st fit = let k = closure_begins c from to sp in record {
+    reads = rw (at_mark mark.Ampersand from _ k, at_mark mark.OpenBrace from _ k, good d from to sp fit) refl;
+    begins = at_mark mark.CloseParen from _ k }
+
+  argument_is : (l : Option Name) (g : Given) (d : ℕ) (from start to : Toks) → Labels l from start → given_with most R (d + 1) start ≡ Ok (g, to) → argument_with most R d from ≡ Ok ((l, g), to)
+  unfolding argument_with
+  argument_is (Some x) g d from start to (is, at_) r = rw (is, ← at_, r) refl
+  argument_is None g d from start to (is, at_) r = rw (is, ← at_, r) refl
+
+  abbrev More : Args → Type 0
+  More es = (l : Option Name) (g : Given) → GoodG g → (xs : List Arg) (d : ℕ) (from to : Toks) → SpellsA (arg l g es) from to → kind_at to ≡ Some (kind.Mark mark.CloseParen) → d + suc (nest_args (arg l g es)) ≤ most
+      → arguments_with most R xs d from ≡ Ok (xs ++ args_in (arg l g es), to)
+
+  more_none : More no_args
+  unfolding arguments_with args_in
+  more_none l g good xs d from to (start, lab, sp) close fit =
+      let o = good (d + 1) start to sp (stops_at 6 Inside to _ (omega arith) close refl) (omega (arith, fit)) in
+      rw (argument_is l g d from start to lab o.reads, at_mark mark.Comma to _ close) refl
+
+  more_arg : (l' : Option Name) (g' : Given) (es : Args) → GoodG g' → More es → More (arg l' g' es)
+  unfolding arguments_with args_in step
+  more_arg l' g' es good' rest l g good xs d from to (start, mid, lab, sp, comma, sps) close fit =
+      let o = good (d + 1) start mid sp (stops_at 6 Inside mid _ (omega arith) comma refl) (omega (arith, fit)) in
+      rw (argument_is l g d from start mid lab o.reads, at_mark mark.Comma mid _ comma, opened (arguments_on (xs ++ (l, g) ∷ [])) d (after mid), rest l' g' good' (xs ++ (l, g) ∷ []) d (after mid) to sps close (omega (arith, fit)))
+        (ap (λ (ys : List Arg). Ok (ys, to)) (append_assoc xs ((l, g) ∷ []) (args_in (arg l' g' es))))
+
+  -- the first argument is no parenthesis
+  first_argument : (l : Option Name) (from start : Toks) → Labels l from start → is_mark mark.CloseParen start ≡ false → is_mark mark.CloseParen from ≡ false
+  first_argument (Some x) from start (is, at_) st = at_mark mark.CloseParen from _ (name_kind from x (label_name from x is))
+  first_argument None from start (is, at_) st = rw at_ at st
+
+  abbrev GoodA : Args → Type 0
+  GoodA es = (d : ℕ) (from to : Toks) → SpellsA es from to → kind_at to ≡ Some (kind.Mark mark.CloseParen) → d + suc (nest_args es) ≤ most → all_arguments_with most R d from ≡ Ok (args_in es, to)
+
+  args_none : GoodA no_args
+  unfolding all_arguments_with args_in
+  args_none d from to is close fit = rw (← is, at_mark mark.CloseParen to _ close) refl
+
+  args_more : (l : Option Name) (g : Given) (es : Args) → GoodG g → More es → GoodA (arg l g es)
+  unfolding all_arguments_with
+  args_more l g es good more d from to sp close fit = rw (starts_arg es sp close fit) (more l g good [] d from to sp close fit)
+    where
+      starts_arg : (fs : Args) → SpellsA (arg l g fs) from to → kind_at to ≡ Some (kind.Mark mark.CloseParen) → d + suc (nest_args (arg l g fs)) ≤ most → is_mark mark.CloseParen from ≡ false
+      starts_arg no_args (start, lab, one) end lt = first_argument l from start lab (good (d + 1) start to one (stops_at 6 Inside to _ (omega arith) end refl) (omega (arith, lt))).begins
+      starts_arg (arg l' g' fs) (start, mid, lab, one, comma, others) end lt = first_argument l from start lab (good (d + 1) start mid one (stops_at 6 Inside mid _ (omega arith) comma refl) (omega (arith, lt))).begins
+
+  -- ---- calls and members
+
+  no_dot_at : (ts : Toks) (x : Option Kind) → kind_at ts ≡ x → mark_is mark.Dot x ≡ false → is_mark mark.Dot ts ≡ false
+  no_dot_at ts x e isnt = at_mark mark.Dot ts x e ∙ isnt
+
+  -- up to the closing parenthesis
+  opened_call : (f : Exp) (es : Args) (tight : Bool) (context : Context) (d : ℕ) (from mid last : Toks) → Own tight context d f from mid → GoodA es → is_post f ≡ true → opens context mid ≡ true → SpellsA es (after mid) last → kind_at last ≡ Some (kind.Mark mark.CloseParen)
+      → d + nest f < most → d + suc (nest_args es) ≤ most → post_with R tight context d from ≡ called_with most R context f d (args_in es) last
+  unfolding step calls_with call_with
+  opened_call f es tight context d from mid last o good is lp sps close lt fit = let k = opens_kind context mid lp in
+      o.post is (λ _. not_closes context mid _ k refl) (λ _. no_dot_at mid _ k refl) ∙ opened (calls_on context f) d mid ∙ rw (lp, lt-ltb _ _ lt, good d (after mid) last sps close fit) refl
+
+  own_call : (s : Span) (f : Exp) (es : Args) → Good f → GoodA es → Good (call s f es)
+  unfolding called_with
+  own_call s f es good goods tight context d from to (mid, last, sp, is, lp, sps, close, is_to, is_s) fit =
+      let o = good tight context d from mid sp (omega (arith, fit)) in let u = o.unled is in
+      rw (is_s, is_to) (own_post (call (till (exp_span f) (here last)) f es) tight context d from (after last) refl refl (omega (arith, fit)) o.begins u.0 u.1
+      (λ cl dot. opened_call f es tight context d from mid last o goods is lp sps close (omega (arith, fit)) (omega (arith, fit)) ∙ rw (at_mark mark.CloseParen last _ close, cl refl, args_list es) refl))
+
+  own_call_closing : (s : Span) (f : Exp) (es : Args) (c : Clo) → Good f → GoodA es → GoodK c → Good (call_closing s f es c)
+  unfolding called_with
+  own_call_closing s f es c good goods goodk tight context d from to (mid, last, sp, is, lp, sps, close, lb, spk, is_s) fit =
+      let o = good tight context d from mid sp (omega (arith, fit)) in let u = o.unled is in
+      rw is_s (own_post (call_closing (till (exp_span f) (clo_span c)) f es c) tight context d from to refl refl (omega (arith, fit)) o.begins u.0 u.1
+      (λ cl dot. opened_call f es tight context d from mid last o goods is lp sps close (omega (arith, fit)) (omega (arith, fit))
+        ∙ rw (at_mark mark.CloseParen last _ close, lb, goodk (d + 1) (after last) to spk (omega (arith, fit)), args_list es) refl))
+
+  own_call_closure : (s : Span) (f : Exp) (c : Clo) → Good f → GoodK c → Good (call_closure s f c)
+  unfolding step calls_with closing_with
+  own_call_closure s f c good goodk tight context d from to (mid, sp, is, isnt, lb, spk, is_s) fit =
+      let o = good tight context d from mid sp (omega (arith, fit)) in let u = o.unled is in let k = closes_kind context mid lb in
+      rw is_s (own_post (call_closure (till (exp_span f) (clo_span c)) f c) tight context d from to refl refl (omega (arith, fit)) o.begins u.0 u.1
+      (λ cl dot. o.post is (λ y. absurd (clash _ y isnt)) (λ _. no_dot_at mid _ k refl) ∙ opened (calls_on context f) d mid
+        ∙ rw (not_opens context mid _ k refl, lb, lt-ltb (d + nest f) most (omega (arith, fit)), goodk (d + 1) mid to spk (omega (arith, fit))) refl))
+
+  own_member : (s : Span) (e : Exp) (n : Name) → Good e → Good (member s e n)
+  unfolding step calls_with member_with
+  own_member s e n good tight context d from to (mid, sp, is, isnt, c, is_to, is_s) fit =
+      let o = good tight context d from mid sp (omega (arith, fit)) in let u = o.unled is in let k = c.0 in
+      rw (is_s, is_to) (own_post (member (till (exp_span e) (here (after mid))) e n) tight context d from (after (after mid)) refl refl (omega (arith, fit)) o.begins u.0 u.1
+      (λ cl dot. o.post is (λ _. not_closes context mid _ k refl) (λ y. absurd (clash _ y isnt)) ∙ opened (calls_on context e) d mid
+        ∙ rw (not_opens context mid _ k refl, not_closes context mid _ k refl, at_mark mark.Dot mid _ k, lt-ltb (d + nest e) most (omega (arith, fit)), c.1) refl))
