@@ -7,4 +7,3 @@ pub mod Paths
 pub mod Patterns
 pub mod PatternsRead
 pub mod Complete
-pub mod CompleteStatements

@@ -439,7 +439,7 @@ clause_statements_with most k ss d ts = separated_with most k d ts >>= λ s. if 
 -- after the patterns of a `case`: a `where` only after a single one
 unfoldable pub where_with : Reader → ℕ → List Pat → Toks → Read When
 where_with k d [] ts = Ok (case_of no_pats, ts)
-where_with k d (p ∷ []) ts = if is_word word.Where ts then (k (expression Plain) (d + 1) (after ts) >>= λ e. Ok (case_where p e.0, e.1)) else Ok (case_of (pat p no_pats), ts)
+where_with k d (p ∷ []) ts = if is_word word.Where ts then (k (expression Plain) d (after ts) >>= λ e. Ok (case_where p e.0, e.1)) else Ok (case_of (pat p no_pats), ts)
 where_with k d (p ∷ q ∷ ps) ts = Ok (case_of (pat p (pats_of (q ∷ ps))), ts)
 
 unfoldable pub head_with : Reader → ℕ → Toks → Read When
