@@ -7,3 +7,4 @@ pub mod Paths
 pub mod Patterns
 pub mod PatternsRead
 pub mod Complete
+pub mod Sound

@@ -1,0 +1,299 @@
+-- What is read is spelled so.
+use Rattle.std.proofs.Common.{◌≡◌, ℕ, zero, suc, ◌+◌, ◌≤◌, ◌<◌, Bool, cond, eqb, ltb, max, true, false, ◌&&◌, List, [], ◌∷◌, ◌++◌, length, Option, Some, None, Result, Ok, Err, ◌⊎◌, inl, inr, refl, sym, ap, ◌∙◌, append_assoc, arith}
+use Rattle.std.proofs.lemmas.Bool.{lt-ltb, ne_eqb}
+use Rattle.std.proofs.lemmas.Bool.Decides.{eqb_tells}
+use Rattle.std.proofs.lemmas.List.{append-nil}
+use Rattle.own_tree.specs.declared.span.Span.{Span}
+use Rattle.own_tree.specs.declared.token.Kind.{Kind}
+use Rattle.own_tree.specs.declared.token.Kind.TheVariants as kind
+use Rattle.own_tree.specs.declared.token.Mark.{Mark}
+use Rattle.own_tree.specs.declared.token.Mark.TheVariants as mark
+use Rattle.own_tree.specs.declared.token.Word.TheVariants as word
+use Rattle.own_tree.specs.declared.tree.Name.{Name}
+use Rattle.own_tree.specs.declared.tree.Path.{Path}
+use Rattle.own_tree.specs.declared.tree.Keyword.{Keyword}
+use Rattle.own_tree.specs.declared.tree.AssignOperator.{AssignOperator}
+use Rattle.own_tree.specs.declared.tree.RangeOperator.{RangeOperator}
+use Rattle.own_tree.specs.declared.tree.Root.{Root}
+use Rattle.own_tree.specs.declared.tree.Root.TheVariants.{Named, SelfWord}
+use Rattle.own_tree.specs.declared.tree.PrefixOperator.{PrefixOperator}
+use Rattle.own_tree.specs.declared.tree.BinaryOperator.{BinaryOperator}
+use Rattle.own_tree.specs.declared.tree.BinaryOperator.TheVariants as operator
+use Rattle.own_tree.specs.Source.{Exp, number, text, truth, path, implicit_member, parenthesized, consumed, prefix, binary, choice, member, call, call_closing, call_closure, Given, value, address, closing, Args, no_args, arg, Clo, closure, Stm, let_in, declare, assign, ignore, discard_self, if_then, if_else, else_if, loop_while, loop_repeat, loop_for, switch, leave, go_on, return_none, return_value, evaluate, Stms, no_stms, stm, When, case_of, case_where, default, Clauses, no_clauses, clause, Blk, block, Pat, Pats, no_pats, pat}
+use Rattle.own_tree.specs.View.{Arg, Cla, args_of, stms_of, clauses_of, pats_of}
+use Rattle.own_grammar.specs.declared.Context.{Context}
+use Rattle.own_grammar.specs.declared.Context.TheVariants.{Plain, Condition, Inside}
+use Rattle.own_grammar.specs.Tests.{Toks, after, here, till, kind_at, is_mark, is_word, name_at, number_at, text_at, truth_at, root_at, operator_at, prefix_in, negative_at, unary_at, opens, closes, label_at, word_is, mark_is, binder_at, keyword_at, range_at, assign_at, assigns, annotates, is_bare, closure_head}
+use Rattle.own_grammar.specs.Nesting.{exp_span, clo_span, level, chains, level_of, is_post, is_path, is_call, nest, nest_given, nest_args, nest_clo, nest_stm, nest_stms, nest_when, nest_clauses, nest_blk, blk_span, stm_span, stms_end, typed_end, is_if, is_return}
+use Rattle.own_grammar.specs.Spells.{IsLeft, Labels, SpellsCase, SpellsPath, SpellsE, SpellsG, SpellsA, SpellsK, SpellsS, SpellsL, SpellsN, SpellsH, SpellsC, SpellsB, SpellsPats, SpellsPat, Sep, Typed, Ignored, ends_after}
+use Rattle.own_grammar.specs.Reading.{Fault, Syntax, Depth, Read, ◌>>=◌, syntax_at, depth_at, on_some, Goal, expression, operand, operators_on, calls_on, arguments_on, Out, Reader, path_from, path_with, parenthesized_with, implicit_with, literal_in, literal_at, primary_with, post_with, prefix_with, consume_with, pre_with, level_with, next_with, operator_with, operators_with, branches_with, choice_with, expression_with, closure_with, address_with, given_with, argument_with, arguments_with, all_arguments_with, called_with, call_with, closing_with, member_with, calls_with, step, statement, statements_on, clause_on, clauses_on, body, typed_with, bound, bound_with, let_with, ignore_with, discard_with, else_with, if_with, while_with, repeat_with, upper_with, lower_with, for_with, switch_with, return_with, path_in, assign_with, evaluate_with, simple_with, statement_with, sep_at, separated_with, statements_with, ends_clause, clause_statements_with, where_with, head_with, clause_with, clauses_with, block_with, patterns_on, read_pattern}
+use Rattle.own_grammar.proofs.Facts.{number_kind, text_kind, name_kind, truth_kind, truth_word, root_kind, root_kind_of, mark_kind, word_kind, at_mark, at_word, opens_kind, closes_kind, assigns_kind, label_name, prefix_mark, unary_kind, negative_kind, no_negative, no_unary, negative_no_unary}
+use Rattle.own_grammar.proofs.Edges.{Breaks, After, after_sep, no_semicolon, no_keyword, at_keyword, not_annotates, name_binder, mark_no_binder, not_clause, start_no_clause, keyword_no_clause, no_brace, stops_range, stops_assign, stops_condition, can_start, starts_at, starts_truth, starts_root, starts_prefix, no_word, no_mark, clash, level_in, Stops, stops_at, stops_brace, stops_question, stops_operator, not_opens, not_closes, weaker}
+use Rattle.own_grammar.proofs.Steps.{bind_is, le_tells}
+use Rattle.own_grammar.proofs.Lists.{args_in, args_list, stms_in, stms_list, clauses_in, clauses_list, pats_in, pats_list}
+use Rattle.own_grammar.proofs.Paths.{path_from_is, path_is, typed_is}
+use Rattle.own_grammar.proofs.PatternsRead.{pats_are}
+use Rattle.std.proofs.lemmas.Bool.{ltb-true, eqb-true}
+use Rattle.own_tree.specs.declared.token.Word.{Word}
+use Rattle.own_grammar.proofs.Steps.{done, bind_ok, ok_is, chosen, kept, some_or, some_kept}
+use Rattle.own_grammar.proofs.Complete.{level_bounds}
+use Rattle.own_grammar.proofs.Paths.{path_from_sound, path_sound, typed_sound}
+use Rattle.own_grammar.proofs.PatternsRead.{pats_sound}
+use Rattle.own_grammar.proofs.Facts.{name_named, number_kind}
+use Rattle.own_grammar.specs.Tests.{word_root, text_at}
+
+pub post_low : (e : Exp) → is_post e ≡ true → level_of e ≡ 0
+post_low (number s negative n) is = refl
+post_low (text s t) is = refl
+post_low (truth s b) is = refl
+post_low (path p) is = refl
+post_low (implicit_member s n) is = refl
+post_low (parenthesized s e) is = refl
+post_low (consumed s p) is = refl
+post_low (prefix s o e) is = refl
+post_low (binary s o at_ a b) is = absurd cc
+post_low (choice s c a b) is = absurd cc
+post_low (member s e n) is = refl
+post_low (call s f es) is = refl
+post_low (call_closing s f es c) is = refl
+post_low (call_closure s f c) is = refl
+
+pub left_of : (c : Bool) (l j : ℕ) → l ≤ j → IsLeft c (suc j) l
+left_of true l j le = omega arith
+left_of false l j le = omega arith
+
+pub right_of : (c : Bool) (l j : ℕ) → IsLeft c (suc j) l → l ≤ suc j
+right_of true l j le = le
+right_of false l j le = omega arith
+
+-- how an expression begins
+begins : (e : Exp) (tight : Bool) (context : Context) (from to : Toks) → SpellsE e tight context from to → can_start (kind_at from) ≡ true
+begins (number s false n) tight context from to sp = starts_at from _ (number_kind from n sp.0) refl
+begins (number s true n) tight context from to sp = starts_at from _ (negative_kind tight from n sp.0).0 refl
+begins (text s t) tight context from to sp = starts_at from _ (text_kind from t sp.0) refl
+begins (truth s b) tight context from to sp = starts_at from _ (truth_kind from b sp.0) (starts_truth b)
+begins (path p) tight context from to sp = starts_at from _ (root_kind from p.root sp.0) (starts_root p.root)
+begins (implicit_member s n) tight context from to sp = starts_at from _ sp.0.0 refl
+begins (parenthesized s e) tight context from to sp = starts_at from _ sp.0 refl
+begins (consumed s p) tight context from to sp = starts_at from _ sp.0 refl
+begins (prefix s o e) tight context from to sp = starts_at from _ (unary_kind tight from o sp.0) (starts_prefix o)
+begins (binary s o at_ a b) tight context from to sp = begins a tight context from sp.0 sp.1
+begins (choice s c a b) tight context from to sp = begins c tight context from sp.0 sp.2
+begins (member s e n) tight context from to sp = begins e tight context from sp.0 sp.1
+begins (call s f es) tight context from to sp = begins f tight context from sp.0 sp.2
+begins (call_closing s f es c) tight context from to sp = begins f tight context from sp.0 sp.2
+begins (call_closure s f c) tight context from to sp = begins f tight context from sp.0 sp.1
+
+not_if : (from : Toks) → kind_at from ≡ Some (kind.Word word.If) → can_start (kind_at from) ≡ true → ⊥
+not_if from is st = absurd cc
+
+clash_keyword : (from : Toks) (k : Keyword) → keyword_at from ≡ Some k → kind_at from ≡ Some (kind.Word word.If) → ⊥
+clash_keyword from k e is = let a = at_keyword from _ is in absurd cc
+
+clash_ignored : (t : Option Name) (from mid : Toks) → Ignored t from mid → kind_at from ≡ Some (kind.Word word.If) → ⊥
+clash_ignored t from mid (inl (k, none, eq, at_)) is = absurd cc
+clash_ignored t from mid (inr (w, kw, nm, ty, eq)) is = clash_keyword from w kw is
+
+-- what begins with `if` is one
+if_is : (s : Stm) (from to : Toks) → SpellsS s from to → kind_at from ≡ Some (kind.Word word.If) → is_if s ≡ true
+if_is (let_in s k n t e) from to sp is = absurd (clash_keyword from k sp.0 is)
+if_is (declare s k n t) from to sp is = absurd (clash_keyword from k sp.0 is)
+if_is (assign s p o at_ e) from to sp is = absurd (not_if from is (starts_at from _ (root_kind from p.root sp.1.0) (starts_root p.root)))
+if_is (ignore s t e) from to sp is = absurd (clash_ignored t from sp.0 sp.1 is)
+if_is (discard_self s) from to sp is = absurd cc
+if_is (if_then s c b) from to sp is = refl
+if_is (if_else s c b d) from to sp is = refl
+if_is (else_if s c b d) from to sp is = refl
+if_is (loop_while s c b) from to sp is = absurd cc
+if_is (loop_repeat s b c) from to sp is = absurd cc
+if_is (loop_for s n low o at_ high b) from to sp is = absurd cc
+if_is (switch s e cs) from to sp is = absurd cc
+if_is (leave s) from to sp is = absurd cc
+if_is (go_on s) from to sp is = absurd cc
+if_is (return_none s) from to sp is = absurd cc
+if_is (return_value s e) from to sp is = absurd cc
+if_is (evaluate e) from to sp is = absurd (not_if from is (begins e false Plain from to sp))
+
+-- ---- literals
+
+abbrev Lit : Exp → Toks → Type 0
+Lit e ts = ((tight : Bool) (context : Context) → SpellsE e tight context ts (after ts)) × (nest e ≡ 1) × (is_post e ≡ true) × (is_call e ≡ false) × (is_path e ≡ false)
+
+some_is : (x y : Exp) → Some x ≡ Some y → x ≡ y
+some_is x y e = cc
+
+number_from : (ts : Toks) (n : ℕ) → kind_at ts ≡ Some (kind.Number n) → number_at ts ≡ Some n
+unfolding number_at
+number_from ts n k = rw k refl
+
+text_from : (ts : Toks) (t : List ℕ) → kind_at ts ≡ Some (kind.Text t) → text_at ts ≡ Some t
+unfolding text_at
+text_from ts t k = rw k refl
+
+literal_by : (ts : Toks) (o : Option Bool) (k : Option Kind) (e : Exp) → truth_at ts ≡ o → kind_at ts ≡ k → literal_in (here ts) o k ≡ Some e → Lit e ts
+literal_by ts o None e t is l = absurd cc
+literal_by ts o (Some (kind.Name x)) e t is l = absurd cc
+literal_by ts None (Some (kind.Word x)) e t is l = absurd cc
+literal_by ts (Some b) (Some (kind.Word x)) e t is l = rw (← some_is (truth (here ts) b) e l) (λ tight context. (t, refl, refl), refl, refl, refl, refl)
+literal_by ts o (Some (kind.Number x)) e t is l = rw (← some_is (number (here ts) false x) e l) (λ tight context. (number_from ts x is, refl, refl), refl, refl, refl, refl)
+literal_by ts o (Some (kind.Text x)) e t is l = rw (← some_is (text (here ts) x) e l) (λ tight context. (text_from ts x is, refl, refl), refl, refl, refl, refl)
+literal_by ts o (Some (kind.Mark x)) e t is l = absurd cc
+
+literal_sound : (ts : Toks) (e : Exp) → literal_at ts ≡ Some e → Lit e ts
+unfolding literal_at
+literal_sound ts e l = literal_by ts (truth_at ts) (kind_at ts) e refl refl l
+
+path_in_is : (e : Exp) (p : Path) → path_in e ≡ Some p → e ≡ path p
+path_in_is (number s negative n) p e = absurd cc
+path_in_is (text s t) p e = absurd cc
+path_in_is (truth s b) p e = absurd cc
+path_in_is (path q) p e = cc
+path_in_is (implicit_member s n) p e = absurd cc
+path_in_is (parenthesized s x) p e = absurd cc
+path_in_is (consumed s q) p e = absurd cc
+path_in_is (prefix s o x) p e = absurd cc
+path_in_is (binary s o at_ a b) p e = absurd cc
+path_in_is (choice s c a b) p e = absurd cc
+path_in_is (member s x n) p e = absurd cc
+path_in_is (call s f es) p e = absurd cc
+path_in_is (call_closing s f es c) p e = absurd cc
+path_in_is (call_closure s f c) p e = absurd cc
+
+module _ (most : ℕ) where
+
+  abbrev pub Spelled : (g : Goal) → ℕ → Out g → Toks → Toks → Type 0
+  Spelled (expression context) d e from to = SpellsE e false context from to × (d + nest e ≤ most)
+  Spelled (operand context) d e from to = SpellsE e true context from to × (d + nest e ≤ most) × (level_of e ≡ 0)
+  Spelled (operators_on j context a) d e from to = (start : Toks) → SpellsE a false context start from → d + nest a ≤ most → IsLeft (chains (suc j)) (suc j) (level_of a) → SpellsE e false context start to × (d + nest e ≤ most) × (level_of e ≤ suc j)
+  Spelled (calls_on context f) d e from to = (tight : Bool) (start : Toks) → SpellsE f tight context start from → d + nest f ≤ most → is_post f ≡ true → (is_call f ≡ true → closes context from ≡ false) → (is_path f ≡ true → is_mark mark.Dot from ≡ false)
+      → SpellsE e tight context start to × (d + nest e ≤ most) × (is_post e ≡ true)
+  Spelled (arguments_on xs) d ys from to = (l : Option Name) × (g : Given) × (es : Args) × (ys ≡ xs ++ args_in (arg l g es)) × SpellsA (arg l g es) from to × (d + suc (nest_args (arg l g es)) ≤ most)
+  Spelled statement d s from to = SpellsS s from to × (d + nest_stm s ≤ most)
+  Spelled (statements_on xs) d ys from to = d ≤ most → (ss : Stms) × (ys ≡ xs ++ stms_in ss) × SpellsL ss from to × (d + nest_stms ss ≤ most)
+  Spelled (clause_on xs) d ys from to = (s : Stm) × (ss : Stms) × (ys ≡ xs ++ stms_in (stm s ss)) × SpellsN (stm s ss) from to × (d + nest_stms (stm s ss) ≤ most)
+  Spelled (clauses_on xs) d ys from to = d ≤ most → (cs : Clauses) × (ys ≡ xs ++ clauses_in cs) × SpellsC cs from to × (d + nest_clauses cs ≤ most)
+  Spelled body d b from to = SpellsB b from to × (d + nest_blk b ≤ most)
+
+  abbrev pub Sound : Reader → Type 0
+  Sound k = (g : Goal) (d : ℕ) (ts : Toks) (x : Out g × Toks) → k g d ts ≡ Ok x → Spelled g d x.0 ts x.1
+
+  module _ (k : Reader) (snd : Sound k) where
+
+    abbrev Whole : Exp → Bool → Context → ℕ → Toks → Toks → Type 0
+    Whole e tight context d from to = SpellsE e tight context from to × (d + nest e ≤ most) × (is_post e ≡ true) × (is_call e ≡ false) × (is_path e ≡ true → is_mark mark.Dot to ≡ false)
+
+    sound_parenthesized : (tight : Bool) (context : Context) (d : ℕ) (ts : Toks) (x : Exp × Toks) → kind_at ts ≡ Some (kind.Mark mark.OpenParen) → parenthesized_with k d ts ≡ Ok x → Whole x.0 tight context d ts x.1
+    unfolding parenthesized_with
+    sound_parenthesized tight context d ts x lp e =
+        let c = bind_ok (k (expression Inside) (d + 1) (after ts)) _ x e in
+        let q = kept _ _ _ _ c.2 in
+        let s = snd (expression Inside) (d + 1) (after ts) c.0 c.1 in
+        rw (← ok_is (parenthesized (till (here ts) (here c.0.1)) c.0.0, after c.0.1) x q.1) ((lp, c.0.1, s.0, mark_kind mark.CloseParen c.0.1 q.0, refl, refl), omega (arith, s.1), refl, refl, λ y. absurd cc)
+
+    sound_implicit : (tight : Bool) (context : Context) (d : ℕ) (ts : Toks) (x : Exp × Toks) → d < most → is_mark mark.Dot ts ≡ true → implicit_with ts ≡ Ok x → Whole x.0 tight context d ts x.1
+    unfolding implicit_with
+    sound_implicit tight context d ts x lt dot e =
+        let s = some_kept (name_at (after ts)) (λ n. done (implicit_member (till (here ts) (here (after ts))) n, after (after ts))) (Syntax (length (after ts))) x e in
+        rw (← ok_is (implicit_member (till (here ts) (here (after ts))) s.0, after (after ts)) x s.2) (((mark_kind mark.Dot ts dot, s.1), refl, refl), omega arith, refl, refl, λ y. absurd cc)
+
+    sound_primary : (tight : Bool) (context : Context) (d : ℕ) (ts : Toks) (x : Exp × Toks) → d < most → primary_with k tight d ts ≡ Ok x → Whole x.0 tight context d ts x.1
+    unfolding primary_with
+    sound_primary tight context d ts x lt e = elim (some_or (negative_at tight ts) _ _ _ e) [
+        inl n ↦ rw (← ok_is (number (till (here ts) (here (after ts))) true n.0, after (after ts)) x n.2) ((n.1, refl, refl), omega arith, refl, refl, λ y. absurd cc)
+      | inr a ↦ elim (some_or (literal_at ts) _ _ _ a.1) [
+          inl l ↦ (let f = literal_sound ts l.0 l.1 in rw (← ok_is (l.0, after ts) x l.2) (f.0 tight context, omega (arith, lt, f.1), f.2, f.3, λ y. absurd (clash _ y f.4)))
+        | inr b ↦ elim (some_or (root_at ts) (λ r. path_from r ts >>= λ p. done (path p.0, p.1)) _ _ b.1) [
+            inl r ↦ (
+              let c = bind_ok (path_from r.0 ts) (λ p. done (path p.0, p.1)) x r.2 in
+              let p = path_from_sound r.0 ts c.0 r.1 c.1 in
+              rw (← ok_is (path c.0.0, c.0.1) x c.2) (p.0, omega arith, refl, refl, λ y. p.1))
+          | inr g ↦ elim (chosen (is_mark mark.Dot ts) _ _ _ g.1) [
+              inl y ↦ sound_implicit tight context d ts x lt y.0 y.1
+            | inr y ↦ (let q = kept _ _ _ _ y.1 in sound_parenthesized tight context d ts x (mark_kind mark.OpenParen ts q.0) q.1) ] ] ] ]
+
+    pub sound_post : (tight : Bool) (context : Context) (d : ℕ) (ts : Toks) (x : Exp × Toks) → d < most → post_with k tight context d ts ≡ Ok x → SpellsE x.0 tight context ts x.1 × (d + nest x.0 ≤ most) × (is_post x.0 ≡ true)
+    unfolding post_with
+    sound_post tight context d ts x lt e =
+        let c = bind_ok (primary_with k tight d ts) _ x e in
+        let p = sound_primary tight context d ts c.0 lt c.1 in
+        snd (calls_on context c.0.0) d c.0.1 x c.2 tight ts p.0 p.1 p.2 (λ y. absurd (clash _ y p.3)) p.4
+
+    sound_prefix : (tight : Bool) (context : Context) (d : ℕ) (ts : Toks) (o : PrefixOperator) (x : Exp × Toks) → unary_at tight ts ≡ Some o → prefix_with k o context d ts ≡ Ok x → SpellsE x.0 tight context ts x.1 × (d + nest x.0 ≤ most) × (level_of x.0 ≡ 0)
+    unfolding prefix_with
+    sound_prefix tight context d ts o x un e =
+        let c = bind_ok (k (operand context) (d + 1) (after ts)) (λ e. done (prefix (till (here ts) (exp_span e.0)) o e.0, e.1)) x e in
+        let s = snd (operand context) (d + 1) (after ts) c.0 c.1 in
+        rw (← ok_is (prefix (till (here ts) (exp_span c.0.0)) o c.0.0, c.0.1) x c.2) ((un, s.0, s.2, refl), omega (arith, s.1), refl)
+
+    sound_consume : (tight : Bool) (context : Context) (d : ℕ) (ts : Toks) (x : Exp × Toks) → is_word word.Consume ts ≡ true → consume_with most d ts ≡ Ok x → SpellsE x.0 tight context ts x.1 × (d + nest x.0 ≤ most) × (level_of x.0 ≡ 0)
+    unfolding consume_with
+    sound_consume tight context d ts x kw e =
+        let q = kept (ltb (d + 1) most) (path_with (after ts) >>= λ p. done (consumed (till (here ts) p.0.span) p.0, p.1)) _ x e in
+        let lt = ltb-true (d + 1) most q.0 in
+        let c = bind_ok (path_with (after ts)) (λ p. done (consumed (till (here ts) p.0.span) p.0, p.1)) x q.1 in
+        let p = path_sound (after ts) c.0 c.1 in
+        rw (← ok_is (consumed (till (here ts) c.0.0.span) c.0.0, c.0.1) x c.2) ((word_kind word.Consume ts kw, p.0, refl), omega (arith, lt), refl)
+
+    pub sound_pre : (tight : Bool) (context : Context) (d : ℕ) (ts : Toks) (x : Exp × Toks) → pre_with most k tight context d ts ≡ Ok x → SpellsE x.0 tight context ts x.1 × (d + nest x.0 ≤ most) × (level_of x.0 ≡ 0)
+    unfolding pre_with
+    sound_pre tight context d ts x e =
+        let q = kept (ltb d most) (on_some (unary_at tight ts) (λ o. prefix_with k o context d ts) (cond (is_word word.Consume ts) (consume_with most d ts) (post_with k tight context d ts))) _ x e in
+        let lt = ltb-true d most q.0 in
+        elim (some_or (unary_at tight ts) (λ o. prefix_with k o context d ts) (cond (is_word word.Consume ts) (consume_with most d ts) (post_with k tight context d ts)) _ q.1) [
+          inl o ↦ sound_prefix tight context d ts o.0 x o.1 o.2
+        | inr y ↦ elim (chosen (is_word word.Consume ts) (consume_with most d ts) (post_with k tight context d ts) _ y.1) [
+            inl z ↦ sound_consume tight context d ts x z.0 z.1
+          | inr z ↦ (let p = sound_post tight context d ts x lt z.1 in (p.0, p.1, post_low x.0 p.2)) ] ]
+
+    pub sound_level : (n : ℕ) (context : Context) (d : ℕ) (ts : Toks) (x : Exp × Toks) → level_with most k n context d ts ≡ Ok x → SpellsE x.0 false context ts x.1 × (d + nest x.0 ≤ most) × (level_of x.0 ≤ n)
+    unfolding level_with
+    sound_level zero context d ts x e = let p = sound_pre false context d ts x e in (p.0, p.1, omega (arith, p.2))
+    sound_level (suc j) context d ts x e =
+        let c = bind_ok (level_with most k j context d ts) _ x e in
+        let p = sound_level j context d ts c.0 c.1 in
+        snd (operators_on j context c.0.0) d c.0.1 x c.2 ts p.0 p.1 (left_of (chains (suc j)) _ j p.2)
+
+    sound_next : (c : Bool) (j : ℕ) (context : Context) (d : ℕ) (e : Exp) (ts start : Toks) (x : Exp × Toks) → chains (suc j) ≡ c → next_with k c j context d e ts ≡ Ok x → SpellsE e false context start ts → d + nest e ≤ most → level_of e ≡ suc j
+        → SpellsE x.0 false context start x.1 × (d + nest x.0 ≤ most) × (level_of x.0 ≤ suc j)
+    unfolding next_with
+    sound_next true j context d e ts start x is r sp fit same = snd (operators_on j context e) d ts x r start sp fit (rw is (omega (arith, same)))
+    sound_next false j context d e ts start x is r sp fit same = rw (← ok_is (e, ts) x r) (sp, fit, omega (arith, same))
+
+    sound_operator : (j : ℕ) (context : Context) (a : Exp) (d : ℕ) (ts : Toks) (o : BinaryOperator) (x : Exp × Toks) → operator_at ts ≡ Some o → operator_with most k j context a d ts o ≡ Ok x → Spelled (operators_on j context a) d x.0 ts x.1
+    unfolding operator_with
+    sound_operator j context a d ts o x is e start sp fit left = elim (chosen (eqb (level o) (suc j)) _ _ _ e) [
+        inr y ↦ rw (← ok_is (a, ts) x y.1) (sp, fit, right_of (chains (suc j)) _ j left)
+      | inl y ↦ (
+          let same = eqb-true (level o) (suc j) y.0 in
+          let q = kept (ltb (d + nest a) most) (level_with most k j context (d + 1) (after ts) >>= λ b. next_with k (chains (suc j)) j context d (binary (till (exp_span a) (exp_span b.0)) o (here ts) a b.0) b.1) _ x y.1 in
+          let lt = ltb-true (d + nest a) most q.0 in
+          let c = bind_ok (level_with most k j context (d + 1) (after ts)) _ x q.1 in
+          let b = sound_level j context (d + 1) (after ts) c.0 c.1 in
+          sound_next (chains (suc j)) j context d (binary (till (exp_span a) (exp_span c.0.0)) o (here ts) a c.0.0) c.0.1 start x refl c.2
+            (ts, sp, rw same left, is, refl, b.0, omega (arith, b.2, same), refl) (omega (arith, lt, b.1)) same) ]
+
+    sound_operators : (j : ℕ) (context : Context) (a : Exp) (d : ℕ) (ts : Toks) (x : Exp × Toks) → operators_with most k j context a d ts ≡ Ok x → Spelled (operators_on j context a) d x.0 ts x.1
+    unfolding operators_with
+    sound_operators j context a d ts x e start sp fit left = elim (some_or (operator_at ts) _ _ _ e) [
+        inl y ↦ sound_operator j context a d ts y.0 x y.1 y.2 start sp fit left
+      | inr y ↦ rw (← ok_is (a, ts) x y.1) (sp, fit, right_of (chains (suc j)) _ j left) ]
+
+    sound_branches : (context : Context) (d : ℕ) (c : Exp) (start ts : Toks) (x : Exp × Toks) → kind_at ts ≡ Some (kind.Mark mark.Question) → SpellsE c false context start ts → level_of c < 6 → d + nest c < most → branches_with k context d c (after ts) ≡ Ok x → SpellsE x.0 false context start x.1 × (d + nest x.0 ≤ most)
+    unfolding branches_with
+    sound_branches context d c start ts x q sp low lt e =
+        let a = bind_ok (k (expression context) (d + 1) (after ts)) (λ a. cond (is_mark mark.Colon a.1) (k (expression context) (d + 1) (after a.1) >>= λ b. done (choice (till (exp_span c) (exp_span b.0)) c a.0 b.0, b.1)) (syntax_at a.1)) x e in
+        let sa = snd (expression context) (d + 1) (after ts) a.0 a.1 in
+        let colon = kept (is_mark mark.Colon a.0.1) (k (expression context) (d + 1) (after a.0.1) >>= λ b. done (choice (till (exp_span c) (exp_span b.0)) c a.0.0 b.0, b.1)) _ x a.2 in
+        let b = bind_ok (k (expression context) (d + 1) (after a.0.1)) (λ b. done (choice (till (exp_span c) (exp_span b.0)) c a.0.0 b.0, b.1)) x colon.1 in
+        let sb = snd (expression context) (d + 1) (after a.0.1) b.0 b.1 in
+        rw (← ok_is (choice (till (exp_span c) (exp_span b.0.0)) c a.0.0 b.0.0, b.0.1) x b.2) ((ts, a.0.1, sp, low, q, sa.0, mark_kind mark.Colon a.0.1 colon.0, sb.0, refl), omega (arith, lt, sa.1, sb.1))
+
+    pub sound_expression : (context : Context) (d : ℕ) (ts : Toks) (x : Exp × Toks) → expression_with most k context d ts ≡ Ok x → SpellsE x.0 false context ts x.1 × (d + nest x.0 ≤ most)
+    unfolding expression_with choice_with
+    sound_expression context d ts x e =
+        let c = bind_ok (level_with most k 5 context d ts) (λ c. cond (is_mark mark.Question c.1) (cond (ltb (d + nest c.0) most) (branches_with k context d c.0 (after c.1)) (depth_at (after c.1))) (Ok (c.0, c.1))) x e in
+        let p = sound_level 5 context d ts c.0 c.1 in
+        elim (chosen (is_mark mark.Question c.0.1) (cond (ltb (d + nest c.0.0) most) (branches_with k context d c.0.0 (after c.0.1)) (depth_at (after c.0.1))) (Ok (c.0.0, c.0.1)) _ c.2) [
+          inl y ↦ (let q = kept (ltb (d + nest c.0.0) most) (branches_with k context d c.0.0 (after c.0.1)) _ x y.1 in
+            sound_branches context d c.0.0 ts c.0.1 x (mark_kind mark.Question c.0.1 y.0) p.0 (omega (arith, p.2)) (ltb-true (d + nest c.0.0) most q.0) q.1)
+        | inr y ↦ rw (← ok_is (c.0.0, c.0.1) x y.1) (p.0, p.1) ]
