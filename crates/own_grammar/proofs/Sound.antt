@@ -297,3 +297,122 @@ module _ (most : ℕ) where
           inl y ↦ (let q = kept (ltb (d + nest c.0.0) most) (branches_with k context d c.0.0 (after c.0.1)) _ x y.1 in
             sound_branches context d c.0.0 ts c.0.1 x (mark_kind mark.Question c.0.1 y.0) p.0 (omega (arith, p.2)) (ltb-true (d + nest c.0.0) most q.0) q.1)
         | inr y ↦ rw (← ok_is (c.0.0, c.0.1) x y.1) (p.0, p.1) ]
+
+    -- ---- closures, arguments and calls
+
+    pub sound_closure : (d : ℕ) (ts : Toks) (x : Clo × Toks) → is_mark mark.OpenBrace ts ≡ true → closure_with most k d ts ≡ Ok x → SpellsK x.0 ts x.1 × (d + nest_clo x.0 ≤ most)
+    unfolding closure_with
+    sound_closure d ts x lb e =
+        let h = closure_head (after ts) in
+        let q = kept (ltb d most) (k (statements_on []) (d + 1) h.1 >>= λ ss. done (closure (till (here ts) (here ss.1)) h.0 (stms_of ss.0), after ss.1)) _ x e in
+        let lt = ltb-true d most q.0 in
+        let s = bind_ok (k (statements_on []) (d + 1) h.1) (λ ss. done (closure (till (here ts) (here ss.1)) h.0 (stms_of ss.0), after ss.1)) x q.1 in
+        let r = snd (statements_on []) (d + 1) h.1 s.0 s.1 (omega (arith, lt)) in
+        let same : stms_of s.0.0 ≡ r.0 = ap stms_of r.1 ∙ stms_list r.0 in
+        rw (← ok_is (closure (till (here ts) (here s.0.1)) h.0 (stms_of s.0.0), after s.0.1) x s.2, same) ((mark_kind mark.OpenBrace ts lb, h.1, s.0.1, refl, r.2, refl, refl), omega (arith, r.3))
+
+    pub sound_given : (d : ℕ) (ts : Toks) (x : Given × Toks) → given_with most k d ts ≡ Ok x → SpellsG x.0 ts x.1 × (d + nest_given x.0 ≤ most)
+    unfolding given_with address_with
+    sound_given d ts x e = elim (chosen (is_mark mark.Ampersand ts) (cond (ltb d most) (path_with (after ts) >>= λ p. done (address (till (here ts) p.0.span) p.0, p.1)) (depth_at (after ts))) (cond (is_mark mark.OpenBrace ts) (closure_with most k d ts >>= λ c. done (closing c.0, c.1)) (expression_with most k Inside d ts >>= λ e. done (value e.0, e.1))) _ e) [
+        inl y ↦ (
+          let q = kept (ltb d most) (path_with (after ts) >>= λ p. done (address (till (here ts) p.0.span) p.0, p.1)) _ x y.1 in
+          let lt = ltb-true d most q.0 in
+          let c = bind_ok (path_with (after ts)) (λ p. done (address (till (here ts) p.0.span) p.0, p.1)) x q.1 in
+          let p = path_sound (after ts) c.0 c.1 in
+          rw (← ok_is (address (till (here ts) c.0.0.span) c.0.0, c.0.1) x c.2) ((mark_kind mark.Ampersand ts y.0, p.0, refl), omega (arith, lt)))
+      | inr y ↦ elim (chosen (is_mark mark.OpenBrace ts) (closure_with most k d ts >>= λ c. done (closing c.0, c.1)) (expression_with most k Inside d ts >>= λ e. done (value e.0, e.1)) _ y.1) [
+          inl z ↦ (
+            let c = bind_ok (closure_with most k d ts) (λ c. done (closing c.0, c.1)) x z.1 in
+            let s = sound_closure d ts c.0 z.0 c.1 in
+            rw (← ok_is (closing c.0.0, c.0.1) x c.2) s)
+        | inr z ↦ (
+            let c = bind_ok (expression_with most k Inside d ts) (λ e. done (value e.0, e.1)) x z.1 in
+            let s = sound_expression Inside d ts c.0 c.1 in
+            rw (← ok_is (value c.0.0, c.0.1) x c.2) s) ] ]
+
+    pub sound_argument : (d : ℕ) (ts : Toks) (x : Arg × Toks) → argument_with most k d ts ≡ Ok x → (start : Toks) × Labels x.0.0 ts start × SpellsG x.0.1 start x.1 × (d + suc (nest_given x.0.1) ≤ most)
+    unfolding argument_with
+    sound_argument d ts x e = elim (some_or (label_at ts) (λ l. given_with most k (d + 1) (after (after ts)) >>= λ g. done ((Some l, g.0), g.1)) (given_with most k (d + 1) ts >>= λ g. done ((None, g.0), g.1)) _ e) [
+        inl l ↦ (
+          let c = bind_ok (given_with most k (d + 1) (after (after ts))) (λ g. done ((Some l.0, g.0), g.1)) x l.2 in
+          let p = sound_given (d + 1) (after (after ts)) c.0 c.1 in
+          rw (← ok_is ((Some l.0, c.0.0), c.0.1) x c.2) (after (after ts), (l.1, refl), p.0, omega (arith, p.1)))
+      | inr l ↦ (
+          let c = bind_ok (given_with most k (d + 1) ts) (λ g. done ((None, g.0), g.1)) x l.1 in
+          let p = sound_given (d + 1) ts c.0 c.1 in
+          rw (← ok_is ((None, c.0.0), c.0.1) x c.2) (ts, (l.0, refl), p.0, omega (arith, p.1))) ]
+
+    sound_arguments : (xs : List Arg) (d : ℕ) (ts : Toks) (x : List Arg × Toks) → arguments_with most k xs d ts ≡ Ok x → Spelled (arguments_on xs) d x.0 ts x.1
+    unfolding arguments_with args_in
+    sound_arguments xs d ts x e =
+        let a = bind_ok (argument_with most k d ts) (λ a. cond (is_mark mark.Comma a.1) (k (arguments_on (xs ++ a.0 ∷ [])) d (after a.1)) (done (xs ++ a.0 ∷ [], a.1))) x e in
+        let p = sound_argument d ts a.0 a.1 in
+        elim (chosen (is_mark mark.Comma a.0.1) (k (arguments_on (xs ++ a.0.0 ∷ [])) d (after a.0.1)) (done (xs ++ a.0.0 ∷ [], a.0.1)) _ a.2) [
+          inl y ↦ (
+            let r = snd (arguments_on (xs ++ a.0.0 ∷ [])) d (after a.0.1) x y.1 in
+            (a.0.0.0, a.0.0.1, arg r.0 r.1 r.2, r.3 ∙ append_assoc xs (a.0.0 ∷ []) (args_in (arg r.0 r.1 r.2)), (p.0, a.0.1, p.1, p.2, mark_kind mark.Comma a.0.1 y.0, r.4), omega (arith, p.3, r.5)))
+        | inr y ↦ rw (← ok_is (xs ++ a.0.0 ∷ [], a.0.1) x y.1) (a.0.0.0, a.0.0.1, no_args, refl, (p.0, p.1, p.2), omega (arith, p.3)) ]
+
+    pub sound_all_arguments : (d : ℕ) (ts : Toks) (x : List Arg × Toks) → d < most → all_arguments_with most k d ts ≡ Ok x → (es : Args) × (x.0 ≡ args_in es) × SpellsA es ts x.1 × (d + suc (nest_args es) ≤ most)
+    unfolding all_arguments_with args_in
+    sound_all_arguments d ts x lt e = elim (chosen (is_mark mark.CloseParen ts) _ _ _ e) [
+        inl y ↦ rw (← ok_is ([], ts) x y.1) (no_args, refl, refl, omega arith)
+      | inr y ↦ (let r = sound_arguments [] d ts x y.1 in (arg r.0 r.1 r.2, r.3, r.4, r.5)) ]
+
+    abbrev Post : Exp → Bool → Context → ℕ → Toks → Toks → Type 0
+    Post e tight context d start to = SpellsE e tight context start to × (d + nest e ≤ most) × (is_post e ≡ true)
+
+    sound_called : (tight : Bool) (context : Context) (f : Exp) (d : ℕ) (xs : List Arg) (ts start from : Toks) (es : Args) (x : Exp × Toks) → called_with most k context f d xs ts ≡ Ok x → xs ≡ args_in es
+        → SpellsE f tight context start from → is_post f ≡ true → opens context from ≡ true → SpellsA es (after from) ts → d + nest f < most → d + suc (nest_args es) ≤ most → Post x.0 tight context d start x.1
+    unfolding called_with
+    sound_called tight context f d xs ts start from es x e same sp is lp sps lt lts =
+        let args : args_of xs ≡ es = ap args_of same ∙ args_list es in
+        let q = kept (is_mark mark.CloseParen ts) (cond (closes context (after ts)) (closure_with most k (d + 1) (after ts) >>= λ c. k (calls_on context (call_closing (till (exp_span f) (clo_span c.0)) f (args_of xs) c.0)) d c.1) (k (calls_on context (call (till (exp_span f) (here ts)) f (args_of xs))) d (after ts))) _ x e in
+        let close = mark_kind mark.CloseParen ts q.0 in
+        elim (chosen (closes context (after ts)) _ _ _ q.1) [
+          inl y ↦ (
+            let y1 = rw args at y.1 in
+            let c = bind_ok (closure_with most k (d + 1) (after ts)) (λ c. k (calls_on context (call_closing (till (exp_span f) (clo_span c.0)) f es c.0)) d c.1) x y1 in
+            let p = sound_closure (d + 1) (after ts) c.0 (at_mark mark.OpenBrace (after ts) _ (closes_kind context (after ts) y.0)) c.1 in
+            snd (calls_on context (call_closing (till (exp_span f) (clo_span c.0.0)) f es c.0.0)) d c.0.1 x c.2 tight start (from, ts, sp, is, lp, sps, close, y.0, p.0, refl) (omega (arith, p.1)) refl (λ z. absurd cc) (λ z. absurd cc))
+        | inr y ↦ snd (calls_on context (call (till (exp_span f) (here ts)) f es)) d (after ts) x (rw args at y.1) tight start (from, ts, sp, is, lp, sps, close, refl, refl) (omega arith) refl (λ z. y.0) (λ z. absurd cc) ]
+
+    sound_call : (tight : Bool) (context : Context) (f : Exp) (d : ℕ) (ts start : Toks) (x : Exp × Toks) → call_with most k context f d ts ≡ Ok x → opens context ts ≡ true → SpellsE f tight context start ts → is_post f ≡ true → Post x.0 tight context d start x.1
+    unfolding call_with
+    sound_call tight context f d ts start x e lp sp is =
+        let q = kept (ltb (d + nest f) most) (all_arguments_with most k d (after ts) >>= λ xs. called_with most k context f d xs.0 xs.1) _ x e in
+        let lt = ltb-true (d + nest f) most q.0 in
+        let c = bind_ok (all_arguments_with most k d (after ts)) (λ xs. called_with most k context f d xs.0 xs.1) x q.1 in
+        let as_ = sound_all_arguments d (after ts) c.0 (omega (arith, lt)) c.1 in
+        sound_called tight context f d c.0.0 c.0.1 start ts as_.0 x c.2 as_.1 sp is lp as_.2 lt as_.3
+
+    sound_closing : (tight : Bool) (context : Context) (f : Exp) (d : ℕ) (ts start : Toks) (x : Exp × Toks) → closing_with most k context f d ts ≡ Ok x → closes context ts ≡ true → SpellsE f tight context start ts → is_post f ≡ true → is_call f ≡ false → Post x.0 tight context d start x.1
+    unfolding closing_with
+    sound_closing tight context f d ts start x e lb sp is isnt =
+        let q = kept (ltb (d + nest f) most) (closure_with most k (d + 1) ts >>= λ c. k (calls_on context (call_closure (till (exp_span f) (clo_span c.0)) f c.0)) d c.1) _ x e in
+        let lt = ltb-true (d + nest f) most q.0 in
+        let c = bind_ok (closure_with most k (d + 1) ts) (λ c. k (calls_on context (call_closure (till (exp_span f) (clo_span c.0)) f c.0)) d c.1) x q.1 in
+        let p = sound_closure (d + 1) ts c.0 (at_mark mark.OpenBrace ts _ (closes_kind context ts lb)) c.1 in
+        snd (calls_on context (call_closure (till (exp_span f) (clo_span c.0.0)) f c.0.0)) d c.0.1 x c.2 tight start (ts, sp, is, isnt, lb, p.0, refl) (omega (arith, lt, p.1)) refl (λ z. absurd cc) (λ z. absurd cc)
+
+    sound_member : (tight : Bool) (context : Context) (f : Exp) (d : ℕ) (ts start : Toks) (x : Exp × Toks) → member_with most k context f d ts ≡ Ok x → is_mark mark.Dot ts ≡ true → SpellsE f tight context start ts → is_post f ≡ true → is_path f ≡ false → Post x.0 tight context d start x.1
+    unfolding member_with
+    sound_member tight context f d ts start x e dot sp is isnt =
+        let q = kept (ltb (d + nest f) most) (on_some (name_at (after ts)) (λ n. k (calls_on context (member (till (exp_span f) (here (after ts))) f n)) d (after (after ts))) (syntax_at (after ts))) _ x e in
+        let lt = ltb-true (d + nest f) most q.0 in
+        let s = some_kept (name_at (after ts)) (λ n. k (calls_on context (member (till (exp_span f) (here (after ts))) f n)) d (after (after ts))) (Syntax (length (after ts))) x q.1 in
+        snd (calls_on context (member (till (exp_span f) (here (after ts))) f s.0)) d (after (after ts)) x s.2 tight start (ts, sp, is, isnt, (mark_kind mark.Dot ts dot, s.1), refl, refl) (omega (arith, lt)) refl (λ z. absurd cc) (λ z. absurd cc)
+
+    never : (b : Bool) (c : Bool) → (b ≡ true → c ≡ false) → c ≡ true → b ≡ false
+    never true c h e = absurd (clash c e (h refl))
+    never false c h e = refl
+
+    sound_calls : (context : Context) (f : Exp) (d : ℕ) (ts : Toks) (x : Exp × Toks) → calls_with most k context f d ts ≡ Ok x → Spelled (calls_on context f) d x.0 ts x.1
+    unfolding calls_with
+    sound_calls context f d ts x e tight start sp fit is closed pathed = elim (chosen (opens context ts) _ _ _ e) [
+        inl y ↦ sound_call tight context f d ts start x y.1 y.0 sp is
+      | inr y ↦ elim (chosen (closes context ts) _ _ _ y.1) [
+          inl z ↦ sound_closing tight context f d ts start x z.1 z.0 sp is (never (is_call f) (closes context ts) closed z.0)
+        | inr z ↦ elim (chosen (is_mark mark.Dot ts) _ _ _ z.1) [
+            inl u ↦ sound_member tight context f d ts start x u.1 u.0 sp is (never (is_path f) (is_mark mark.Dot ts) pathed u.0)
+          | inr u ↦ rw (← ok_is (f, ts) x u.1) (sp, fit, is) ] ] ]
