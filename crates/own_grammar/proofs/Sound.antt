@@ -26,7 +26,7 @@ use Rattle.own_grammar.specs.declared.Context.TheVariants.{Plain, Condition, Ins
 use Rattle.own_grammar.specs.Tests.{Toks, after, here, till, kind_at, is_mark, is_word, name_at, number_at, text_at, truth_at, root_at, operator_at, prefix_in, negative_at, unary_at, opens, closes, label_at, word_is, mark_is, binder_at, keyword_at, range_at, assign_at, assigns, annotates, is_bare, closure_head}
 use Rattle.own_grammar.specs.Nesting.{exp_span, clo_span, level, chains, level_of, is_post, is_path, is_call, nest, nest_given, nest_args, nest_clo, nest_stm, nest_stms, nest_when, nest_clauses, nest_blk, blk_span, stm_span, stms_end, typed_end, is_if, is_return}
 use Rattle.own_grammar.specs.Spells.{IsLeft, Labels, SpellsCase, SpellsPath, SpellsE, SpellsG, SpellsA, SpellsK, SpellsS, SpellsL, SpellsN, SpellsH, SpellsC, SpellsB, SpellsPats, SpellsPat, Sep, Typed, Ignored, ends_after}
-use Rattle.own_grammar.specs.Reading.{Fault, Syntax, Depth, Read, ◌>>=◌, syntax_at, depth_at, on_some, Goal, expression, operand, operators_on, calls_on, arguments_on, Out, Reader, path_from, path_with, parenthesized_with, implicit_with, literal_in, literal_at, primary_with, post_with, prefix_with, consume_with, pre_with, level_with, next_with, operator_with, operators_with, branches_with, choice_with, expression_with, closure_with, address_with, given_with, argument_with, arguments_with, all_arguments_with, called_with, call_with, closing_with, member_with, calls_with, step, statement, statements_on, clause_on, clauses_on, body, typed_with, bound, bound_with, let_with, ignore_with, discard_with, else_with, if_with, while_with, repeat_with, upper_with, lower_with, for_with, switch_with, return_with, path_in, assign_with, evaluate_with, simple_with, statement_with, sep_at, separated_with, statements_with, ends_clause, clause_statements_with, where_with, head_with, clause_with, clauses_with, block_with, patterns_on, read_pattern}
+use Rattle.own_grammar.specs.Reading.{Fault, Syntax, Depth, Read, ◌>>=◌, syntax_at, depth_at, on_some, Goal, expression, operand, operators_on, calls_on, arguments_on, Out, Reader, path_from, path_with, parenthesized_with, implicit_with, literal_in, literal_at, primary_with, post_with, prefix_with, consume_with, pre_with, level_with, next_with, operator_with, operators_with, branches_with, choice_with, expression_with, closure_with, address_with, given_with, argument_with, arguments_with, all_arguments_with, called_with, call_with, closing_with, member_with, calls_with, step, statement, statements_on, clause_on, clauses_on, body, typed_with, bound, bound_with, let_with, ignore_with, discard_with, else_with, if_with, while_with, repeat_with, upper_with, lower_with, for_with, switch_with, return_with, path_in, assign_with, evaluate_with, simple_with, statement_with, sep_at, separated_with, statements_with, ends_clause, clause_statements_with, where_with, head_with, clause_with, clauses_with, block_with, patterns_on, read_pattern, read_at, read}
 use Rattle.own_grammar.proofs.Facts.{number_kind, text_kind, name_kind, truth_kind, truth_word, root_kind, root_kind_of, mark_kind, word_kind, at_mark, at_word, opens_kind, closes_kind, assigns_kind, label_name, prefix_mark, unary_kind, negative_kind, no_negative, no_unary, negative_no_unary}
 use Rattle.own_grammar.proofs.Edges.{Breaks, After, after_sep, no_semicolon, no_keyword, at_keyword, not_annotates, name_binder, mark_no_binder, not_clause, start_no_clause, keyword_no_clause, no_brace, stops_range, stops_assign, stops_condition, can_start, starts_at, starts_truth, starts_root, starts_prefix, no_word, no_mark, clash, level_in, Stops, stops_at, stops_brace, stops_question, stops_operator, not_opens, not_closes, weaker}
 use Rattle.own_grammar.proofs.Steps.{bind_is, le_tells}
@@ -39,7 +39,7 @@ use Rattle.own_grammar.proofs.Steps.{done, bind_ok, ok_is, chosen, kept, some_or
 use Rattle.own_grammar.proofs.Complete.{level_bounds}
 use Rattle.own_grammar.proofs.Paths.{path_from_sound, path_sound, typed_sound}
 use Rattle.own_grammar.proofs.PatternsRead.{pats_sound}
-use Rattle.own_grammar.proofs.Facts.{name_named, number_kind}
+use Rattle.own_grammar.proofs.Facts.{name_named, number_kind, named, binder_kind, binder_kind_of}
 use Rattle.own_grammar.specs.Tests.{word_root, text_at}
 
 pub post_low : (e : Exp) → is_post e ≡ true → level_of e ≡ 0
@@ -158,6 +158,29 @@ path_in_is (member s x n) p e = absurd cc
 path_in_is (call s f es) p e = absurd cc
 path_in_is (call_closing s f es c) p e = absurd cc
 path_in_is (call_closure s f c) p e = absurd cc
+
+nest_positive : (e : Exp) → 1 ≤ nest e
+nest_positive (number s negative n) = omega arith
+nest_positive (text s t) = omega arith
+nest_positive (truth s b) = omega arith
+nest_positive (path p) = omega arith
+nest_positive (implicit_member s n) = omega arith
+nest_positive (parenthesized s e) = omega arith
+nest_positive (consumed s p) = omega arith
+nest_positive (prefix s o e) = omega arith
+nest_positive (binary s o at_ a b) = omega arith
+nest_positive (choice s c a b) = omega arith
+nest_positive (member s e n) = omega arith
+nest_positive (call s f es) = omega arith
+nest_positive (call_closing s f es c) = omega arith
+nest_positive (call_closure s f c) = omega arith
+
+binder_named : (s : Span) (x : List ℕ) (n : Name) → Some (Some (named s x)) ≡ Some (Some n) → named s x ≡ n
+binder_named s x n e = cc
+
+binder_name : (ts : Toks) (n : Name) → binder_at ts ≡ Some (Some n) → name_at ts ≡ Some n
+unfolding binder_at name_at binder_kind_of
+binder_name ts n e = let k = binder_kind ts (Some n) e in rw k (ap (λ (m : Name). Some m) (binder_named (here ts) n.text n (rw k at e)))
 
 module _ (most : ℕ) where
 
@@ -416,3 +439,296 @@ module _ (most : ℕ) where
         | inr z ↦ elim (chosen (is_mark mark.Dot ts) _ _ _ z.1) [
             inl u ↦ sound_member tight context f d ts start x u.1 u.0 sp is (never (is_path f) (is_mark mark.Dot ts) pathed u.0)
           | inr u ↦ rw (← ok_is (f, ts) x u.1) (sp, fit, is) ] ] ]
+
+    -- ---- statements
+
+    abbrev Said : Stm → ℕ → Toks → Toks → Type 0
+    Said s d from to = SpellsS s from to × (d + nest_stm s ≤ most)
+
+    said_bound : (s : Span) (w : Keyword) (n t : Option Name) (e : Exp) (d : ℕ) (from mid to : Toks) → keyword_at from ≡ Some w → binder_at (after from) ≡ Some n → Typed t (after (after from)) mid → assigns mid ≡ true → SpellsE e false Plain (after mid) to → s ≡ till (here from) (exp_span e) → d + 1 + nest e ≤ most → Said (bound s w n t e) d from to
+    unfolding binder_kind_of
+    said_bound s w (Some n) t e d from mid to kw nm ty eq sp is fit = ((kw, binder_name (after from) n nm, mid, ty, eq, sp, is), omega (arith, fit))
+    said_bound s w None t e d from mid to kw nm ty eq sp is fit = ((mid, inr (w, kw, binder_kind (after from) None nm, ty, eq), sp, is), omega (arith, fit))
+
+    sound_bound : (d : ℕ) (ts : Toks) (w : Keyword) (n t : Option Name) (us : Toks) (x : Stm × Toks) → d < most → keyword_at ts ≡ Some w → binder_at (after ts) ≡ Some n → Typed t (after (after ts)) us → bound_with k d ts w n t us ≡ Ok x → Said x.0 d ts x.1
+    unfolding bound_with
+    sound_bound d ts w n t us x lt kw nm ty e = elim (chosen (assigns us) (k (expression Plain) (d + 1) (after us) >>= λ e. done (bound (till (here ts) (exp_span e.0)) w n t e.0, e.1)) (done (declare (till (here ts) (typed_end (here (after ts)) t)) w n t, us)) _ e) [
+        inl y ↦ (
+          let c = bind_ok (k (expression Plain) (d + 1) (after us)) (λ e. done (bound (till (here ts) (exp_span e.0)) w n t e.0, e.1)) x y.1 in
+          let p = snd (expression Plain) (d + 1) (after us) c.0 c.1 in
+          rw (← ok_is (bound (till (here ts) (exp_span c.0.0)) w n t c.0.0, c.0.1) x c.2) (said_bound (till (here ts) (exp_span c.0.0)) w n t c.0.0 d ts us c.0.1 kw nm ty y.0 p.0 refl p.1))
+      | inr y ↦ rw (← ok_is (declare (till (here ts) (typed_end (here (after ts)) t)) w n t, us) x y.1) ((kw, nm, ty, refl), omega (arith, lt)) ]
+
+    sound_let : (d : ℕ) (ts : Toks) (w : Keyword) (x : Stm × Toks) → d < most → keyword_at ts ≡ Some w → let_with k d ts w ≡ Ok x → Said x.0 d ts x.1
+    unfolding let_with
+    sound_let d ts w x lt kw e =
+        let n = some_kept (binder_at (after ts)) (λ n. typed_with (after (after ts)) >>= λ t. bound_with k d ts w n t.0 t.1) (Syntax (length (after ts))) x e in
+        let t = bind_ok (typed_with (after (after ts))) (λ t. bound_with k d ts w n.0 t.0 t.1) x n.2 in
+        sound_bound d ts w n.0 t.0.0 t.0.1 x lt kw n.1 (typed_sound (after (after ts)) t.0 t.1) t.2
+
+    sound_ignore : (d : ℕ) (ts : Toks) (x : Stm × Toks) → is_mark mark.Underscore ts ≡ true → ignore_with k d ts ≡ Ok x → Said x.0 d ts x.1
+    unfolding ignore_with
+    sound_ignore d ts x u e =
+        let q = kept (is_mark mark.Assign (after ts)) (k (expression Plain) (d + 1) (after (after ts)) >>= λ e. done (ignore (till (here ts) (exp_span e.0)) None e.0, e.1)) _ x e in
+        let c = bind_ok (k (expression Plain) (d + 1) (after (after ts))) (λ e. done (ignore (till (here ts) (exp_span e.0)) None e.0, e.1)) x q.1 in
+        let p = snd (expression Plain) (d + 1) (after (after ts)) c.0 c.1 in
+        rw (← ok_is (ignore (till (here ts) (exp_span c.0.0)) None c.0.0, c.0.1) x c.2) ((after ts, inl (mark_kind mark.Underscore ts u, refl, mark_kind mark.Assign (after ts) q.0, refl), p.0, refl), omega (arith, p.1))
+
+    sound_discard : (d : ℕ) (ts : Toks) (x : Stm × Toks) → d < most → is_word word.Discard ts ≡ true → discard_with ts ≡ Ok x → Said x.0 d ts x.1
+    unfolding discard_with
+    sound_discard d ts x lt kw e =
+        let q = kept (is_word word.SelfValue (after ts)) (done (discard_self (till (here ts) (here (after ts))), after (after ts))) _ x e in
+        rw (← ok_is (discard_self (till (here ts) (here (after ts))), after (after ts)) x q.1) ((word_kind word.Discard ts kw, word_kind word.SelfValue (after ts) q.0, refl, refl), omega (arith, lt))
+
+    sound_while : (d : ℕ) (ts : Toks) (x : Stm × Toks) → is_word word.While ts ≡ true → while_with k d ts ≡ Ok x → Said x.0 d ts x.1
+    unfolding while_with
+    sound_while d ts x kw e =
+        let c = bind_ok (k (expression Condition) (d + 1) (after ts)) (λ c. k body (d + 1) c.1 >>= λ b. done (loop_while (till (here ts) (blk_span b.0)) c.0 b.0, b.1)) x e in
+        let p = snd (expression Condition) (d + 1) (after ts) c.0 c.1 in
+        let b = bind_ok (k body (d + 1) c.0.1) (λ b. done (loop_while (till (here ts) (blk_span b.0)) c.0.0 b.0, b.1)) x c.2 in
+        let r = snd body (d + 1) c.0.1 b.0 b.1 in
+        rw (← ok_is (loop_while (till (here ts) (blk_span b.0.0)) c.0.0 b.0.0, b.0.1) x b.2) ((word_kind word.While ts kw, c.0.1, p.0, r.0, refl), omega (arith, p.1, r.1))
+
+    sound_repeat : (d : ℕ) (ts : Toks) (x : Stm × Toks) → is_word word.Repeat ts ≡ true → repeat_with k d ts ≡ Ok x → Said x.0 d ts x.1
+    unfolding repeat_with
+    sound_repeat d ts x kw e =
+        let b = bind_ok (k body (d + 1) (after ts)) (λ b. cond (is_word word.While b.1) (k (expression Condition) (d + 1) (after b.1) >>= λ c. done (loop_repeat (till (here ts) (exp_span c.0)) b.0 c.0, c.1)) (syntax_at b.1)) x e in
+        let r = snd body (d + 1) (after ts) b.0 b.1 in
+        let q = kept (is_word word.While b.0.1) (k (expression Condition) (d + 1) (after b.0.1) >>= λ c. done (loop_repeat (till (here ts) (exp_span c.0)) b.0.0 c.0, c.1)) _ x b.2 in
+        let c = bind_ok (k (expression Condition) (d + 1) (after b.0.1)) (λ c. done (loop_repeat (till (here ts) (exp_span c.0)) b.0.0 c.0, c.1)) x q.1 in
+        let p = snd (expression Condition) (d + 1) (after b.0.1) c.0 c.1 in
+        rw (← ok_is (loop_repeat (till (here ts) (exp_span c.0.0)) b.0.0 c.0.0, c.0.1) x c.2) ((word_kind word.Repeat ts kw, b.0.1, r.0, word_kind word.While b.0.1 q.0, p.0, refl), omega (arith, p.1, r.1))
+
+    sound_upper : (d : ℕ) (ts : Toks) (n : Option Name) (low : Exp) (o : RangeOperator) (us : Toks) (x : Stm × Toks) → kind_at ts ≡ Some (kind.Word word.For) → binder_at (after ts) ≡ Some n → kind_at (after (after ts)) ≡ Some (kind.Word word.In)
+        → SpellsE low false Condition (after (after (after ts))) us → d + 1 + nest low ≤ most → range_at us ≡ Some o → upper_with k d ts n low o us ≡ Ok x → Said x.0 d ts x.1
+    unfolding upper_with
+    sound_upper d ts n low o us x kw nm within spl fitl op e =
+        let h = bind_ok (k (expression Condition) (d + 1) (after us)) (λ high. k body (d + 1) high.1 >>= λ b. done (loop_for (till (here ts) (blk_span b.0)) n low o (here us) high.0 b.0, b.1)) x e in
+        let p = snd (expression Condition) (d + 1) (after us) h.0 h.1 in
+        let b = bind_ok (k body (d + 1) h.0.1) (λ b. done (loop_for (till (here ts) (blk_span b.0)) n low o (here us) h.0.0 b.0, b.1)) x h.2 in
+        let r = snd body (d + 1) h.0.1 b.0 b.1 in
+        rw (← ok_is (loop_for (till (here ts) (blk_span b.0.0)) n low o (here us) h.0.0 b.0.0, b.0.1) x b.2) ((kw, nm, within, us, h.0.1, spl, op, refl, p.0, r.0, refl), omega (arith, fitl, p.1, r.1))
+
+    sound_for : (d : ℕ) (ts : Toks) (x : Stm × Toks) → is_word word.For ts ≡ true → for_with k d ts ≡ Ok x → Said x.0 d ts x.1
+    unfolding for_with lower_with
+    sound_for d ts x kw e =
+        let us = after (after (after ts)) in
+        let n = some_kept (binder_at (after ts)) (λ n. cond (is_word word.In (after (after ts))) (k (expression Condition) (d + 1) us >>= λ low. on_some (range_at low.1) (λ o. upper_with k d ts n low.0 o low.1) (syntax_at low.1)) (syntax_at (after (after ts)))) (Syntax (length (after ts))) x e in
+        let q = kept (is_word word.In (after (after ts))) (k (expression Condition) (d + 1) us >>= λ low. on_some (range_at low.1) (λ o. upper_with k d ts n.0 low.0 o low.1) (syntax_at low.1)) _ x n.2 in
+        let low = bind_ok (k (expression Condition) (d + 1) us) (λ low. on_some (range_at low.1) (λ o. upper_with k d ts n.0 low.0 o low.1) (syntax_at low.1)) x q.1 in
+        let p = snd (expression Condition) (d + 1) us low.0 low.1 in
+        let o = some_kept (range_at low.0.1) (λ o. upper_with k d ts n.0 low.0.0 o low.0.1) (Syntax (length low.0.1)) x low.2 in
+        sound_upper d ts n.0 low.0.0 o.0 low.0.1 x (word_kind word.For ts kw) n.1 (word_kind word.In (after (after ts)) q.0) p.0 p.1 o.1 o.2
+
+    sound_else : (d : ℕ) (ts mid : Toks) (c : Exp) (b : Blk) (us : Toks) (x : Stm × Toks) → kind_at ts ≡ Some (kind.Word word.If) → SpellsE c false Condition (after ts) mid → SpellsB b mid us → d + 1 + nest c ≤ most → d + 1 + nest_blk b ≤ most
+        → else_with k d ts c b us ≡ Ok x → Said x.0 d ts x.1
+    unfolding else_with
+    sound_else d ts mid c b us x kw spc spb fitc fitb e = elim (chosen (is_word word.Else us) _ _ _ e) [
+        inr y ↦ rw (← ok_is (if_then (till (here ts) (blk_span b)) c b, us) x y.1) ((kw, mid, spc, spb, refl), omega (arith, fitc, fitb))
+      | inl y ↦ elim (chosen (is_word word.If (after us)) _ _ _ y.1) [
+          inl z ↦ (
+            let s = bind_ok (k statement (d + 1) (after us)) (λ s. done (else_if (till (here ts) (stm_span s.0)) c b s.0, s.1)) x z.1 in
+            let p = snd statement (d + 1) (after us) s.0 s.1 in
+            rw (← ok_is (else_if (till (here ts) (stm_span s.0.0)) c b s.0.0, s.0.1) x s.2) ((kw, mid, us, spc, spb, word_kind word.Else us y.0, p.0, if_is s.0.0 (after us) s.0.1 p.0 (word_kind word.If (after us) z.0), refl), omega (arith, fitc, fitb, p.1)))
+        | inr z ↦ (
+            let s = bind_ok (k body (d + 1) (after us)) (λ s. done (if_else (till (here ts) (blk_span s.0)) c b s.0, s.1)) x z.1 in
+            let p = snd body (d + 1) (after us) s.0 s.1 in
+            rw (← ok_is (if_else (till (here ts) (blk_span s.0.0)) c b s.0.0, s.0.1) x s.2) ((kw, mid, us, spc, spb, word_kind word.Else us y.0, p.0, refl), omega (arith, fitc, fitb, p.1))) ] ]
+
+    sound_if : (d : ℕ) (ts : Toks) (x : Stm × Toks) → is_word word.If ts ≡ true → if_with k d ts ≡ Ok x → Said x.0 d ts x.1
+    unfolding if_with
+    sound_if d ts x kw e =
+        let c = bind_ok (k (expression Condition) (d + 1) (after ts)) (λ c. k body (d + 1) c.1 >>= λ b. else_with k d ts c.0 b.0 b.1) x e in
+        let p = snd (expression Condition) (d + 1) (after ts) c.0 c.1 in
+        let b = bind_ok (k body (d + 1) c.0.1) (λ b. else_with k d ts c.0.0 b.0 b.1) x c.2 in
+        let r = snd body (d + 1) c.0.1 b.0 b.1 in
+        sound_else d ts c.0.1 c.0.0 b.0.0 b.0.1 x (word_kind word.If ts kw) p.0 r.0 p.1 r.1 b.2
+
+    sound_switch : (d : ℕ) (ts : Toks) (x : Stm × Toks) → d < most → is_word word.Switch ts ≡ true → switch_with k d ts ≡ Ok x → Said x.0 d ts x.1
+    unfolding switch_with
+    sound_switch d ts x lt kw e =
+        let c = bind_ok (k (expression Condition) (d + 1) (after ts)) (λ e. cond (is_mark mark.OpenBrace e.1) (k (clauses_on []) (d + 1) (after e.1) >>= λ cs. done (switch (till (here ts) (here cs.1)) e.0 (clauses_of cs.0), after cs.1)) (syntax_at e.1)) x e in
+        let p = snd (expression Condition) (d + 1) (after ts) c.0 c.1 in
+        let q = kept (is_mark mark.OpenBrace c.0.1) (k (clauses_on []) (d + 1) (after c.0.1) >>= λ cs. done (switch (till (here ts) (here cs.1)) c.0.0 (clauses_of cs.0), after cs.1)) _ x c.2 in
+        let s = bind_ok (k (clauses_on []) (d + 1) (after c.0.1)) (λ cs. done (switch (till (here ts) (here cs.1)) c.0.0 (clauses_of cs.0), after cs.1)) x q.1 in
+        let r = snd (clauses_on []) (d + 1) (after c.0.1) s.0 s.1 (omega (arith, lt)) in
+        let same : clauses_of s.0.0 ≡ r.0 = ap clauses_of r.1 ∙ clauses_list r.0 in
+        rw (← ok_is (switch (till (here ts) (here s.0.1)) c.0.0 (clauses_of s.0.0), after s.0.1) x s.2, same) ((word_kind word.Switch ts kw, c.0.1, s.0.1, p.0, mark_kind mark.OpenBrace c.0.1 q.0, r.2, refl, refl), omega (arith, p.1, r.3))
+
+    sound_return : (d : ℕ) (ts : Toks) (x : Stm × Toks) → d < most → is_word word.Return ts ≡ true → return_with k d ts ≡ Ok x → Said x.0 d ts x.1
+    unfolding return_with
+    sound_return d ts x lt kw e = elim (chosen (is_bare (after ts)) _ _ _ e) [
+        inl y ↦ rw (← ok_is (return_none (here ts), after ts) x y.1) ((word_kind word.Return ts kw, refl, refl), omega arith)
+      | inr y ↦ (
+          let c = bind_ok (k (expression Plain) (d + 1) (after ts)) (λ e. done (return_value (till (here ts) (exp_span e.0)) e.0, e.1)) x y.1 in
+          let p = snd (expression Plain) (d + 1) (after ts) c.0 c.1 in
+          rw (← ok_is (return_value (till (here ts) (exp_span c.0.0)) c.0.0, c.0.1) x c.2) ((word_kind word.Return ts kw, y.0, p.0, refl), omega (arith, p.1))) ]
+
+    sound_assign : (d : ℕ) (ts us : Toks) (e : Exp) (o : AssignOperator) (x : Stm × Toks) → SpellsE e false Plain ts us → d + 1 + nest e ≤ most → assign_at us ≡ Some o → assign_with k d e us o ≡ Ok x → Said x.0 d ts x.1
+    unfolding assign_with
+    sound_assign d ts us e o x sp fit op r = elim (some_or (path_in e) (λ p. k (expression Plain) (d + 1) (after us) >>= λ y. done (assign (till p.span (exp_span y.0)) p o (here us) y.0, y.1)) (done (evaluate e, us)) _ r) [
+        inr y ↦ rw (← ok_is (evaluate e, us) x y.1) (sp, omega (arith, fit))
+      | inl p ↦ (
+          let spp : SpellsPath p.0 ts us = rw (path_in_is e p.0 p.1) at sp in
+          let c = bind_ok (k (expression Plain) (d + 1) (after us)) (λ y. done (assign (till p.0.span (exp_span y.0)) p.0 o (here us) y.0, y.1)) x p.2 in
+          let q = snd (expression Plain) (d + 1) (after us) c.0 c.1 in
+          rw (← ok_is (assign (till p.0.span (exp_span c.0.0)) p.0 o (here us) c.0.0, c.0.1) x c.2) ((us, spp, op, refl, q.0, refl), omega (arith, nest_positive e, fit, q.1))) ]
+    sound_evaluate : (d : ℕ) (ts : Toks) (x : Stm × Toks) → evaluate_with most k d ts ≡ Ok x → Said x.0 d ts x.1
+    unfolding evaluate_with
+    sound_evaluate d ts x e =
+        let c = bind_ok (expression_with most k Plain (d + 1) ts) (λ c. on_some (assign_at c.1) (assign_with k d c.0 c.1) (done (evaluate c.0, c.1))) x e in
+        let p = sound_expression Plain (d + 1) ts c.0 c.1 in
+        elim (some_or (assign_at c.0.1) (assign_with k d c.0.0 c.0.1) (done (evaluate c.0.0, c.0.1)) _ c.2) [
+          inr y ↦ rw (← ok_is (evaluate c.0.0, c.0.1) x y.1) (p.0, omega (arith, p.1))
+        | inl o ↦ sound_assign d ts c.0.1 c.0.0 o.0 x p.0 p.1 o.1 o.2 ]
+
+    sound_simple : (d : ℕ) (ts : Toks) (x : Stm × Toks) → d < most → simple_with most k d ts ≡ Ok x → Said x.0 d ts x.1
+    unfolding simple_with
+    sound_simple d ts x lt e = elim (chosen (is_mark mark.Underscore ts) _ _ _ e) [
+        inl y ↦ sound_ignore d ts x y.0 y.1
+      | inr y ↦ elim (chosen (is_word word.Discard ts) _ _ _ y.1) [
+          inl z ↦ sound_discard d ts x lt z.0 z.1
+        | inr z ↦ elim (chosen (is_word word.Break ts) _ _ _ z.1) [
+            inl u ↦ rw (← ok_is (leave (here ts), after ts) x u.1) ((word_kind word.Break ts u.0, refl, refl), omega arith)
+          | inr u ↦ elim (chosen (is_word word.Continue ts) _ _ _ u.1) [
+              inl v ↦ rw (← ok_is (go_on (here ts), after ts) x v.1) ((word_kind word.Continue ts v.0, refl, refl), omega arith)
+            | inr v ↦ elim (chosen (is_word word.Return ts) _ _ _ v.1) [
+                inl w ↦ sound_return d ts x lt w.0 w.1
+              | inr w ↦ sound_evaluate d ts x w.1 ] ] ] ] ]
+
+    pub sound_statement : (d : ℕ) (ts : Toks) (x : Stm × Toks) → statement_with most k d ts ≡ Ok x → Said x.0 d ts x.1
+    unfolding statement_with
+    sound_statement d ts x e =
+        let q = kept (ltb d most) (on_some (keyword_at ts) (let_with k d ts) (cond (is_word word.If ts) (if_with k d ts) (cond (is_word word.While ts) (while_with k d ts) (cond (is_word word.Repeat ts) (repeat_with k d ts) (cond (is_word word.For ts) (for_with k d ts) (cond (is_word word.Switch ts) (switch_with k d ts) (simple_with most k d ts))))))) _ x e in
+        let lt = ltb-true d most q.0 in
+        elim (some_or (keyword_at ts) (let_with k d ts) (cond (is_word word.If ts) (if_with k d ts) (cond (is_word word.While ts) (while_with k d ts) (cond (is_word word.Repeat ts) (repeat_with k d ts) (cond (is_word word.For ts) (for_with k d ts) (cond (is_word word.Switch ts) (switch_with k d ts) (simple_with most k d ts)))))) _ q.1) [
+          inl y ↦ sound_let d ts y.0 x lt y.1 y.2
+        | inr y ↦ elim (chosen (is_word word.If ts) _ _ _ y.1) [
+            inl z ↦ sound_if d ts x z.0 z.1
+          | inr z ↦ elim (chosen (is_word word.While ts) _ _ _ z.1) [
+              inl u ↦ sound_while d ts x u.0 u.1
+            | inr u ↦ elim (chosen (is_word word.Repeat ts) _ _ _ u.1) [
+                inl v ↦ sound_repeat d ts x v.0 v.1
+              | inr v ↦ elim (chosen (is_word word.For ts) _ _ _ v.1) [
+                  inl w ↦ sound_for d ts x w.0 w.1
+                | inr w ↦ elim (chosen (is_word word.Switch ts) _ _ _ w.1) [
+                    inl f ↦ sound_switch d ts x lt f.0 f.1
+                  | inr f ↦ sound_simple d ts x lt f.1 ] ] ] ] ] ]
+
+    pub sound_sep : (bare : Bool) (ts next : Toks) → sep_at bare ts ≡ Ok next → Sep bare ts next
+    unfolding sep_at
+    sound_sep bare ts next e = elim (chosen (is_mark mark.Semicolon ts) _ _ _ e) [
+        inl y ↦ inl (mark_kind mark.Semicolon ts y.0, sym (ok_is (after ts) next y.1))
+      | inr y ↦ (let q = kept (ends_after bare ts) _ _ next y.1 in inr (q.0, λ semi. clash _ (at_mark mark.Semicolon ts _ semi) y.0, sym (ok_is ts next q.1))) ]
+
+    pub sound_separated : (d : ℕ) (ts : Toks) (x : Stm × Toks) → separated_with most k d ts ≡ Ok x → (mid : Toks) × SpellsS x.0 ts mid × Sep (is_return x.0) mid x.1 × (d + nest_stm x.0 ≤ most)
+    unfolding separated_with
+    sound_separated d ts x e =
+        let s = bind_ok (statement_with most k d ts) (λ s. sep_at (is_return s.0) s.1 >>= λ next. done (s.0, next)) x e in
+        let p = sound_statement d ts s.0 s.1 in
+        let n = bind_ok (sep_at (is_return s.0.0) s.0.1) (λ next. done (s.0.0, next)) x s.2 in
+        rw (← ok_is (s.0.0, n.0) x n.2) (s.0.1, p.0, sound_sep (is_return s.0.0) s.0.1 n.0 n.1, p.1)
+
+    sound_statements : (xs : List Stm) (d : ℕ) (ts : Toks) (x : List Stm × Toks) → statements_with most k xs d ts ≡ Ok x → Spelled (statements_on xs) d x.0 ts x.1
+    unfolding statements_with stms_in
+    sound_statements xs d ts x e le = elim (chosen (is_mark mark.CloseBrace ts) _ _ _ e) [
+        inl y ↦ rw (← ok_is (xs, ts) x y.1) (no_stms, sym (append-nil xs), (mark_kind mark.CloseBrace ts y.0, refl), omega (arith, le))
+      | inr y ↦ (
+          let s = bind_ok (separated_with most k d ts) (λ s. k (statements_on (xs ++ s.0 ∷ [])) d s.1) x y.1 in
+          let p = sound_separated d ts s.0 s.1 in
+          let r = snd (statements_on (xs ++ s.0.0 ∷ [])) d s.0.1 x s.2 le in
+          (stm s.0.0 r.0, r.1 ∙ append_assoc xs (s.0.0 ∷ []) (stms_in r.0), (p.0, s.0.1, p.1, p.2, r.2), omega (arith, p.3, r.3))) ]
+
+    -- ---- clauses
+
+    sound_clause_statements : (xs : List Stm) (d : ℕ) (ts : Toks) (x : List Stm × Toks) → clause_statements_with most k xs d ts ≡ Ok x → Spelled (clause_on xs) d x.0 ts x.1
+    unfolding clause_statements_with stms_in
+    sound_clause_statements xs d ts x e =
+        let s = bind_ok (separated_with most k d ts) (λ s. cond (ends_clause s.1) (done (xs ++ s.0 ∷ [], s.1)) (k (clause_on (xs ++ s.0 ∷ [])) d s.1)) x e in
+        let p = sound_separated d ts s.0 s.1 in
+        elim (chosen (ends_clause s.0.1) (done (xs ++ s.0.0 ∷ [], s.0.1)) (k (clause_on (xs ++ s.0.0 ∷ [])) d s.0.1) _ s.2) [
+          inl y ↦ rw (← ok_is (xs ++ s.0.0 ∷ [], s.0.1) x y.1) (s.0.0, no_stms, refl, (p.0, p.1, p.2), omega (arith, p.3))
+        | inr y ↦ (
+            let r = snd (clause_on (xs ++ s.0.0 ∷ [])) d s.0.1 x y.1 in
+            (s.0.0, stm r.0 r.1, r.2 ∙ append_assoc xs (s.0.0 ∷ []) (stms_in (stm r.0 r.1)), (p.0, s.0.1, p.1, p.2, r.3), omega (arith, p.3, r.4))) ]
+
+    abbrev Headed : When → ℕ → Toks → Toks → Type 0
+    Headed h d from to = SpellsH h from to × (d + nest_when h ≤ most)
+
+    sound_where : (p : Pat) (ps : Pats) (d : ℕ) (ts us : Toks) (x : When × Toks) → d ≤ most → kind_at ts ≡ Some (kind.Word word.Case) → SpellsPats (pat p ps) (after ts) us → where_with k d (pats_in (pat p ps)) us ≡ Ok x → Headed x.0 d ts x.1
+    unfolding where_with pats_in
+    sound_where p no_pats d ts us x le kw sp e = elim (chosen (is_word word.Where us) _ _ _ e) [
+        inr y ↦ rw (← ok_is (case_of (pat p no_pats), us) x y.1) ((kw, sp), omega (arith, le))
+      | inl y ↦ (
+          let c = bind_ok (k (expression Plain) d (after us)) (λ e. done (case_where p e.0, e.1)) x y.1 in
+          let q = snd (expression Plain) d (after us) c.0 c.1 in
+          rw (← ok_is (case_where p c.0.0, c.0.1) x c.2) ((kw, us, sp, word_kind word.Where us y.0, q.0), q.1)) ]
+    sound_where p (pat q ps) d ts us x le kw sp e = rw (← ok_is (case_of (pat p (pats_of (pats_in (pat q ps)))), us) x e, pats_list ps) ((kw, sp), omega (arith, le))
+
+    sound_head : (d : ℕ) (ts : Toks) (x : When × Toks) → d ≤ most → head_with k d ts ≡ Ok x → Headed x.0 d ts x.1
+    unfolding head_with
+    sound_head d ts x le e = elim (chosen (is_word word.Case ts) (read_pattern (patterns_on []) (after ts) >>= λ ps. where_with k d ps.0 ps.1) (cond (is_word word.Default ts) (done (default, after ts)) (syntax_at ts)) _ e) [
+        inl y ↦ (
+          let c = bind_ok (read_pattern (patterns_on []) (after ts)) (λ ps. where_with k d ps.0 ps.1) x y.1 in
+          let s = pats_sound (after ts) c.0 c.1 in
+          sound_where s.0 s.1 d ts c.0.1 x le (word_kind word.Case ts y.0) s.3 (rw s.2 at c.2))
+      | inr y ↦ (
+          let q = kept (is_word word.Default ts) (done (default, after ts)) _ x y.1 in
+          rw (← ok_is (default, after ts) x q.1) ((word_kind word.Default ts q.0, refl), omega (arith, le))) ]
+
+    abbrev Claused : Cla → ℕ → Toks → Toks → Type 0
+    Claused c d from to = (colon : Toks) × SpellsH c.1 from colon × (kind_at colon ≡ Some (kind.Mark mark.Colon)) × SpellsN c.2 (after colon) to × (c.0 ≡ till (here from) (stms_end (here colon) c.2)) × (d + nest_when c.1 ≤ most) × (d + nest_stms c.2 ≤ most)
+
+    pub sound_clause : (d : ℕ) (ts : Toks) (x : Cla × Toks) → d ≤ most → clause_with k d ts ≡ Ok x → Claused x.0 d ts x.1
+    unfolding clause_with
+    sound_clause d ts x le e =
+        let h = bind_ok (head_with k d ts) (λ h. cond (is_mark mark.Colon h.1) (k (clause_on []) d (after h.1) >>= λ ss. done ((till (here ts) (stms_end (here h.1) (stms_of ss.0)), h.0, stms_of ss.0), ss.1)) (syntax_at h.1)) x e in
+        let p = sound_head d ts h.0 le h.1 in
+        let q = kept (is_mark mark.Colon h.0.1) (k (clause_on []) d (after h.0.1) >>= λ ss. done ((till (here ts) (stms_end (here h.0.1) (stms_of ss.0)), h.0.0, stms_of ss.0), ss.1)) _ x h.2 in
+        let s = bind_ok (k (clause_on []) d (after h.0.1)) (λ ss. done ((till (here ts) (stms_end (here h.0.1) (stms_of ss.0)), h.0.0, stms_of ss.0), ss.1)) x q.1 in
+        let r = snd (clause_on []) d (after h.0.1) s.0 s.1 in
+        let same : stms_of s.0.0 ≡ stm r.0 r.1 = ap stms_of r.2 ∙ stms_list (stm r.0 r.1) in
+        rw (← ok_is ((till (here ts) (stms_end (here h.0.1) (stms_of s.0.0)), h.0.0, stms_of s.0.0), s.0.1) x s.2, same) (h.0.1, p.0, mark_kind mark.Colon h.0.1 q.0, r.3, refl, p.1, r.4)
+
+    sound_clauses : (xs : List Cla) (d : ℕ) (ts : Toks) (x : List Cla × Toks) → clauses_with k xs d ts ≡ Ok x → Spelled (clauses_on xs) d x.0 ts x.1
+    unfolding clauses_with clauses_in
+    sound_clauses xs d ts x e le = elim (chosen (is_mark mark.CloseBrace ts) _ _ _ e) [
+        inl y ↦ rw (← ok_is (xs, ts) x y.1) (no_clauses, sym (append-nil xs), (mark_kind mark.CloseBrace ts y.0, refl), omega (arith, le))
+      | inr y ↦ (
+          let c = bind_ok (clause_with k d ts) (λ c. k (clauses_on (xs ++ c.0 ∷ [])) d c.1) x y.1 in
+          let p = sound_clause d ts c.0 le c.1 in
+          let r = snd (clauses_on (xs ++ c.0.0 ∷ [])) d c.0.1 x c.2 le in
+          (clause c.0.0.0 c.0.0.1 c.0.0.2 r.0, r.1 ∙ append_assoc xs (c.0.0 ∷ []) (clauses_in r.0), (p.0, c.0.1, p.1, p.2, p.3, p.4, r.2), omega (arith, p.5, p.6, r.3))) ]
+
+    sound_block : (d : ℕ) (ts : Toks) (x : Blk × Toks) → block_with most k d ts ≡ Ok x → SpellsB x.0 ts x.1 × (d + nest_blk x.0 ≤ most)
+    unfolding block_with
+    sound_block d ts x e =
+        let q = kept (ltb d most) (cond (is_mark mark.OpenBrace ts) (k (statements_on []) (d + 1) (after ts) >>= λ ss. done (block (till (here ts) (here ss.1)) (stms_of ss.0), after ss.1)) (syntax_at ts)) _ x e in
+        let q2 = kept (is_mark mark.OpenBrace ts) (k (statements_on []) (d + 1) (after ts) >>= λ ss. done (block (till (here ts) (here ss.1)) (stms_of ss.0), after ss.1)) _ x q.1 in
+        let s = bind_ok (k (statements_on []) (d + 1) (after ts)) (λ ss. done (block (till (here ts) (here ss.1)) (stms_of ss.0), after ss.1)) x q2.1 in
+        let lt = ltb-true d most q.0 in
+        let r = snd (statements_on []) (d + 1) (after ts) s.0 s.1 (omega (arith, lt)) in
+        let same : stms_of s.0.0 ≡ r.0 = ap stms_of r.1 ∙ stms_list r.0 in
+        rw (← ok_is (block (till (here ts) (here s.0.1)) (stms_of s.0.0), after s.0.1) x s.2, same) ((mark_kind mark.OpenBrace ts q2.0, s.0.1, r.2, refl, refl), omega (arith, r.3))
+
+    pub sound_step : Sound (step most k)
+    unfolding step
+    sound_step (expression context) d ts x e = sound_expression context d ts x e
+    sound_step (operand context) d ts x e = sound_pre true context d ts x e
+    sound_step (operators_on j context a) d ts x e = sound_operators j context a d ts x e
+    sound_step (calls_on context f) d ts x e = sound_calls context f d ts x e
+    sound_step (arguments_on xs) d ts x e = sound_arguments xs d ts x e
+    sound_step statement d ts x e = sound_statement d ts x e
+    sound_step (statements_on xs) d ts x e = sound_statements xs d ts x e
+    sound_step (clause_on xs) d ts x e = sound_clause_statements xs d ts x e
+    sound_step (clauses_on xs) d ts x e = sound_clauses xs d ts x e
+    sound_step body d ts x e = sound_block d ts x e
+
+  pub sound_at : (fuel : ℕ) → Sound (read_at most fuel)
+  unfolding read_at
+  sound_at zero g d ts x e = absurd cc
+  sound_at (suc fuel) g d ts x e = sound_step (read_at most fuel) (sound_at fuel) g d ts x e
+
+  pub sound : Sound (read most)
+  unfolding read
+  sound g d ts x e = sound_at (suc (length ts)) g d ts x e
