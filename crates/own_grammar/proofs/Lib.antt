@@ -8,3 +8,5 @@ pub mod Patterns
 pub mod PatternsRead
 pub mod Complete
 pub mod Sound
+pub mod Shorter
+pub mod Same
