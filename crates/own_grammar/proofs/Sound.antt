@@ -234,6 +234,9 @@ module _ (most : ℕ) where
               inl y ↦ sound_implicit tight context d ts x lt y.0 y.1
             | inr y ↦ (let q = kept _ _ _ _ y.1 in sound_parenthesized tight context d ts x (mark_kind mark.OpenParen ts q.0) q.1) ] ] ] ]
 
+    pub sound_primary_short : (tight : Bool) (context : Context) (d : ℕ) (ts : Toks) (x : Exp × Toks) → d < most → primary_with k tight d ts ≡ Ok x → SpellsE x.0 tight context ts x.1
+    sound_primary_short tight context d ts x lt e = (sound_primary tight context d ts x lt e).0
+
     pub sound_post : (tight : Bool) (context : Context) (d : ℕ) (ts : Toks) (x : Exp × Toks) → d < most → post_with k tight context d ts ≡ Ok x → SpellsE x.0 tight context ts x.1 × (d + nest x.0 ≤ most) × (is_post x.0 ≡ true)
     unfolding post_with
     sound_post tight context d ts x lt e =
@@ -653,37 +656,37 @@ module _ (most : ℕ) where
             (s.0.0, stm r.0 r.1, r.2 ∙ append_assoc xs (s.0.0 ∷ []) (stms_in (stm r.0 r.1)), (p.0, s.0.1, p.1, p.2, r.3), omega (arith, p.3, r.4))) ]
 
     abbrev Headed : When → ℕ → Toks → Toks → Type 0
-    Headed h d from to = SpellsH h from to × (d + nest_when h ≤ most)
+    Headed h d from to = SpellsH h from to × (d ≤ most → d + nest_when h ≤ most)
 
-    sound_where : (p : Pat) (ps : Pats) (d : ℕ) (ts us : Toks) (x : When × Toks) → d ≤ most → kind_at ts ≡ Some (kind.Word word.Case) → SpellsPats (pat p ps) (after ts) us → where_with k d (pats_in (pat p ps)) us ≡ Ok x → Headed x.0 d ts x.1
+    sound_where : (p : Pat) (ps : Pats) (d : ℕ) (ts us : Toks) (x : When × Toks) → kind_at ts ≡ Some (kind.Word word.Case) → SpellsPats (pat p ps) (after ts) us → where_with k d (pats_in (pat p ps)) us ≡ Ok x → Headed x.0 d ts x.1
     unfolding where_with pats_in
-    sound_where p no_pats d ts us x le kw sp e = elim (chosen (is_word word.Where us) _ _ _ e) [
-        inr y ↦ rw (← ok_is (case_of (pat p no_pats), us) x y.1) ((kw, sp), omega (arith, le))
+    sound_where p no_pats d ts us x kw sp e = elim (chosen (is_word word.Where us) _ _ _ e) [
+        inr y ↦ rw (← ok_is (case_of (pat p no_pats), us) x y.1) ((kw, sp), λ le. omega (arith, le))
       | inl y ↦ (
           let c = bind_ok (k (expression Plain) d (after us)) (λ e. done (case_where p e.0, e.1)) x y.1 in
           let q = snd (expression Plain) d (after us) c.0 c.1 in
-          rw (← ok_is (case_where p c.0.0, c.0.1) x c.2) ((kw, us, sp, word_kind word.Where us y.0, q.0), q.1)) ]
-    sound_where p (pat q ps) d ts us x le kw sp e = rw (← ok_is (case_of (pat p (pats_of (pats_in (pat q ps)))), us) x e, pats_list ps) ((kw, sp), omega (arith, le))
+          rw (← ok_is (case_where p c.0.0, c.0.1) x c.2) ((kw, us, sp, word_kind word.Where us y.0, q.0), λ le. q.1)) ]
+    sound_where p (pat q ps) d ts us x kw sp e = rw (← ok_is (case_of (pat p (pats_of (pats_in (pat q ps)))), us) x e, pats_list ps) ((kw, sp), λ le. omega (arith, le))
 
-    sound_head : (d : ℕ) (ts : Toks) (x : When × Toks) → d ≤ most → head_with k d ts ≡ Ok x → Headed x.0 d ts x.1
+    pub sound_head : (d : ℕ) (ts : Toks) (x : When × Toks) → head_with k d ts ≡ Ok x → Headed x.0 d ts x.1
     unfolding head_with
-    sound_head d ts x le e = elim (chosen (is_word word.Case ts) (read_pattern (patterns_on []) (after ts) >>= λ ps. where_with k d ps.0 ps.1) (cond (is_word word.Default ts) (done (default, after ts)) (syntax_at ts)) _ e) [
+    sound_head d ts x e = elim (chosen (is_word word.Case ts) (read_pattern (patterns_on []) (after ts) >>= λ ps. where_with k d ps.0 ps.1) (cond (is_word word.Default ts) (done (default, after ts)) (syntax_at ts)) _ e) [
         inl y ↦ (
           let c = bind_ok (read_pattern (patterns_on []) (after ts)) (λ ps. where_with k d ps.0 ps.1) x y.1 in
           let s = pats_sound (after ts) c.0 c.1 in
-          sound_where s.0 s.1 d ts c.0.1 x le (word_kind word.Case ts y.0) s.3 (rw s.2 at c.2))
+          sound_where s.0 s.1 d ts c.0.1 x (word_kind word.Case ts y.0) s.3 (rw s.2 at c.2))
       | inr y ↦ (
           let q = kept (is_word word.Default ts) (done (default, after ts)) _ x y.1 in
-          rw (← ok_is (default, after ts) x q.1) ((word_kind word.Default ts q.0, refl), omega (arith, le))) ]
+          rw (← ok_is (default, after ts) x q.1) ((word_kind word.Default ts q.0, refl), λ le. omega (arith, le))) ]
 
     abbrev Claused : Cla → ℕ → Toks → Toks → Type 0
-    Claused c d from to = (colon : Toks) × SpellsH c.1 from colon × (kind_at colon ≡ Some (kind.Mark mark.Colon)) × SpellsN c.2 (after colon) to × (c.0 ≡ till (here from) (stms_end (here colon) c.2)) × (d + nest_when c.1 ≤ most) × (d + nest_stms c.2 ≤ most)
+    Claused c d from to = (colon : Toks) × SpellsH c.1 from colon × (kind_at colon ≡ Some (kind.Mark mark.Colon)) × SpellsN c.2 (after colon) to × (c.0 ≡ till (here from) (stms_end (here colon) c.2)) × (d ≤ most → d + nest_when c.1 ≤ most) × (d + nest_stms c.2 ≤ most)
 
-    pub sound_clause : (d : ℕ) (ts : Toks) (x : Cla × Toks) → d ≤ most → clause_with k d ts ≡ Ok x → Claused x.0 d ts x.1
+    pub sound_clause : (d : ℕ) (ts : Toks) (x : Cla × Toks) → clause_with k d ts ≡ Ok x → Claused x.0 d ts x.1
     unfolding clause_with
-    sound_clause d ts x le e =
+    sound_clause d ts x e =
         let h = bind_ok (head_with k d ts) (λ h. cond (is_mark mark.Colon h.1) (k (clause_on []) d (after h.1) >>= λ ss. done ((till (here ts) (stms_end (here h.1) (stms_of ss.0)), h.0, stms_of ss.0), ss.1)) (syntax_at h.1)) x e in
-        let p = sound_head d ts h.0 le h.1 in
+        let p = sound_head d ts h.0 h.1 in
         let q = kept (is_mark mark.Colon h.0.1) (k (clause_on []) d (after h.0.1) >>= λ ss. done ((till (here ts) (stms_end (here h.0.1) (stms_of ss.0)), h.0.0, stms_of ss.0), ss.1)) _ x h.2 in
         let s = bind_ok (k (clause_on []) d (after h.0.1)) (λ ss. done ((till (here ts) (stms_end (here h.0.1) (stms_of ss.0)), h.0.0, stms_of ss.0), ss.1)) x q.1 in
         let r = snd (clause_on []) d (after h.0.1) s.0 s.1 in
@@ -696,9 +699,9 @@ module _ (most : ℕ) where
         inl y ↦ rw (← ok_is (xs, ts) x y.1) (no_clauses, sym (append-nil xs), (mark_kind mark.CloseBrace ts y.0, refl), omega (arith, le))
       | inr y ↦ (
           let c = bind_ok (clause_with k d ts) (λ c. k (clauses_on (xs ++ c.0 ∷ [])) d c.1) x y.1 in
-          let p = sound_clause d ts c.0 le c.1 in
+          let p = sound_clause d ts c.0 c.1 in let low = p.5 le in
           let r = snd (clauses_on (xs ++ c.0.0 ∷ [])) d c.0.1 x c.2 le in
-          (clause c.0.0.0 c.0.0.1 c.0.0.2 r.0, r.1 ∙ append_assoc xs (c.0.0 ∷ []) (clauses_in r.0), (p.0, c.0.1, p.1, p.2, p.3, p.4, r.2), omega (arith, p.5, p.6, r.3))) ]
+          (clause c.0.0.0 c.0.0.1 c.0.0.2 r.0, r.1 ∙ append_assoc xs (c.0.0 ∷ []) (clauses_in r.0), (p.0, c.0.1, p.1, p.2, p.3, p.4, r.2), omega (arith, low, p.6, r.3))) ]
 
     sound_block : (d : ℕ) (ts : Toks) (x : Blk × Toks) → block_with most k d ts ≡ Ok x → SpellsB x.0 ts x.1 × (d + nest_blk x.0 ≤ most)
     unfolding block_with
