@@ -10,3 +10,4 @@ pub mod Complete
 pub mod Sound
 pub mod Shorter
 pub mod Same
+pub mod Deep

@@ -143,7 +143,7 @@ literal_sound : (ts : Toks) (e : Exp) → literal_at ts ≡ Some e → Lit e ts
 unfolding literal_at
 literal_sound ts e l = literal_by ts (truth_at ts) (kind_at ts) e refl refl l
 
-path_in_is : (e : Exp) (p : Path) → path_in e ≡ Some p → e ≡ path p
+pub path_in_is : (e : Exp) (p : Path) → path_in e ≡ Some p → e ≡ path p
 path_in_is (number s negative n) p e = absurd cc
 path_in_is (text s t) p e = absurd cc
 path_in_is (truth s b) p e = absurd cc
@@ -159,7 +159,11 @@ path_in_is (call s f es) p e = absurd cc
 path_in_is (call_closing s f es c) p e = absurd cc
 path_in_is (call_closure s f c) p e = absurd cc
 
-nest_positive : (e : Exp) → 1 ≤ nest e
+pub never : (b : Bool) (c : Bool) → (b ≡ true → c ≡ false) → c ≡ true → b ≡ false
+never true c h e = absurd (clash c e (h refl))
+never false c h e = refl
+
+pub nest_positive : (e : Exp) → 1 ≤ nest e
 nest_positive (number s negative n) = omega arith
 nest_positive (text s t) = omega arith
 nest_positive (truth s b) = omega arith
@@ -219,7 +223,7 @@ module _ (most : ℕ) where
         let s = some_kept (name_at (after ts)) (λ n. done (implicit_member (till (here ts) (here (after ts))) n, after (after ts))) (Syntax (length (after ts))) x e in
         rw (← ok_is (implicit_member (till (here ts) (here (after ts))) s.0, after (after ts)) x s.2) (((mark_kind mark.Dot ts dot, s.1), refl, refl), omega arith, refl, refl, λ y. absurd cc)
 
-    sound_primary : (tight : Bool) (context : Context) (d : ℕ) (ts : Toks) (x : Exp × Toks) → d < most → primary_with k tight d ts ≡ Ok x → Whole x.0 tight context d ts x.1
+    pub sound_primary : (tight : Bool) (context : Context) (d : ℕ) (ts : Toks) (x : Exp × Toks) → d < most → primary_with k tight d ts ≡ Ok x → Whole x.0 tight context d ts x.1
     unfolding primary_with
     sound_primary tight context d ts x lt e = elim (some_or (negative_at tight ts) _ _ _ e) [
         inl n ↦ rw (← ok_is (number (till (here ts) (here (after ts))) true n.0, after (after ts)) x n.2) ((n.1, refl, refl), omega arith, refl, refl, λ y. absurd cc)
@@ -428,10 +432,6 @@ module _ (most : ℕ) where
         let lt = ltb-true (d + nest f) most q.0 in
         let s = some_kept (name_at (after ts)) (λ n. k (calls_on context (member (till (exp_span f) (here (after ts))) f n)) d (after (after ts))) (Syntax (length (after ts))) x q.1 in
         snd (calls_on context (member (till (exp_span f) (here (after ts))) f s.0)) d (after (after ts)) x s.2 tight start (ts, sp, is, isnt, (mark_kind mark.Dot ts dot, s.1), refl, refl) (omega (arith, lt)) refl (λ z. absurd cc) (λ z. absurd cc)
-
-    never : (b : Bool) (c : Bool) → (b ≡ true → c ≡ false) → c ≡ true → b ≡ false
-    never true c h e = absurd (clash c e (h refl))
-    never false c h e = refl
 
     sound_calls : (context : Context) (f : Exp) (d : ℕ) (ts : Toks) (x : Exp × Toks) → calls_with most k context f d ts ≡ Ok x → Spelled (calls_on context f) d x.0 ts x.1
     unfolding calls_with
