@@ -309,3 +309,256 @@ module _ (most : ℕ) where
         | inr z ↦ elim (chosen (is_mark mark.Dot ts) _ _ _ z.1) [
             inl u ↦ deep_member tight context f d ts start n u.1 u.0 sp is (never (is_path f) (is_mark mark.Dot ts) pathed u.0)
           | inr u ↦ absurd (no_ok _ n u.1) ] ] ]
+
+    -- ---- statements
+
+    deep_let : (d : ℕ) (ts : Toks) (w : Keyword) (n : ℕ) → keyword_at ts ≡ Some w → let_with k d ts w ≡ Err (Depth n) → DeepS d ts n
+    unfolding let_with bound_with
+    deep_let d ts w n kw e =
+        let m = some_syn (binder_at (after ts)) (λ m. typed_with (after (after ts)) >>= λ t. bound_with k d ts w m t.0 t.1) (length (after ts)) n e in
+        elim (bind_err (typed_with (after (after ts))) (λ t. bound_with k d ts w m.0 t.0 t.1) _ m.2) [
+          inl y ↦ absurd (typed_no_depth (after (after ts)) n y)
+        | inr y ↦ (
+            let ty = typed_sound (after (after ts)) y.0 y.1 in
+            elim (chosen (assigns y.0.1) (k (expression Plain) (d + 1) (after y.0.1) >>= λ e. done (bound (till (here ts) (exp_span e.0)) w m.0 y.0.0 e.0, e.1)) (done (declare (till (here ts) (typed_end (here (after ts)) y.0.0)) w m.0 y.0.0, y.0.1)) _ y.2) [
+              inr z ↦ absurd (no_ok _ n z.1)
+            | inl z ↦ (
+                let r = dp (expression Plain) (d + 1) (after y.0.1) n (bind_deep (k (expression Plain) (d + 1) (after y.0.1)) (λ e. (bound (till (here ts) (exp_span e.0)) w m.0 y.0.0 e.0, e.1)) n z.1) in
+                (p_let w m.0 y.0.0 r.0, r.1, r.2, (kw, m.1, y.0.1, ty, z.0, r.3), omega (arith, r.4))) ]) ]
+
+    deep_ignore : (d : ℕ) (ts : Toks) (n : ℕ) → is_mark mark.Underscore ts ≡ true → ignore_with k d ts ≡ Err (Depth n) → DeepS d ts n
+    unfolding ignore_with
+    deep_ignore d ts n u e =
+        let q = syn (is_mark mark.Assign (after ts)) (k (expression Plain) (d + 1) (after (after ts)) >>= λ e. done (ignore (till (here ts) (exp_span e.0)) None e.0, e.1)) _ n e in
+        let r = dp (expression Plain) (d + 1) (after (after ts)) n (bind_deep (k (expression Plain) (d + 1) (after (after ts))) (λ e. (ignore (till (here ts) (exp_span e.0)) None e.0, e.1)) n q.1) in
+        (p_ignore r.0, r.1, r.2, (mark_kind mark.Underscore ts u, mark_kind mark.Assign (after ts) q.0, r.3), omega (arith, r.4))
+
+    deep_while : (d : ℕ) (ts : Toks) (n : ℕ) → is_word word.While ts ≡ true → while_with k d ts ≡ Err (Depth n) → DeepS d ts n
+    unfolding while_with
+    deep_while d ts n kw e = elim (bind_err (k (expression Condition) (d + 1) (after ts)) (λ c. k body (d + 1) c.1 >>= λ b. done (loop_while (till (here ts) (blk_span b.0)) c.0 b.0, b.1)) _ e) [
+        inl y ↦ (let r = dp (expression Condition) (d + 1) (after ts) n y in (p_while r.0, r.1, r.2, (word_kind word.While ts kw, r.3), omega (arith, r.4)))
+      | inr y ↦ (
+          let p = snd (expression Condition) (d + 1) (after ts) y.0 y.1 in
+          let r = dp body (d + 1) y.0.1 n (bind_deep (k body (d + 1) y.0.1) (λ b. (loop_while (till (here ts) (blk_span b.0)) y.0.0 b.0, b.1)) n y.2) in
+          (p_while_do y.0.0 r.0, r.1, r.2, (word_kind word.While ts kw, y.0.1, p.0, r.3), omega (arith, r.4))) ]
+
+    deep_repeat : (d : ℕ) (ts : Toks) (n : ℕ) → is_word word.Repeat ts ≡ true → repeat_with k d ts ≡ Err (Depth n) → DeepS d ts n
+    unfolding repeat_with
+    deep_repeat d ts n kw e = elim (bind_err (k body (d + 1) (after ts)) (λ b. cond (is_word word.While b.1) (k (expression Condition) (d + 1) (after b.1) >>= λ c. done (loop_repeat (till (here ts) (exp_span c.0)) b.0 c.0, c.1)) (syntax_at b.1)) _ e) [
+        inl y ↦ (let r = dp body (d + 1) (after ts) n y in (p_repeat r.0, r.1, r.2, (word_kind word.Repeat ts kw, r.3), omega (arith, r.4)))
+      | inr y ↦ (
+          let p = snd body (d + 1) (after ts) y.0 y.1 in
+          let q = syn (is_word word.While y.0.1) (k (expression Condition) (d + 1) (after y.0.1) >>= λ c. done (loop_repeat (till (here ts) (exp_span c.0)) y.0.0 c.0, c.1)) _ n y.2 in
+          let r = dp (expression Condition) (d + 1) (after y.0.1) n (bind_deep (k (expression Condition) (d + 1) (after y.0.1)) (λ c. (loop_repeat (till (here ts) (exp_span c.0)) y.0.0 c.0, c.1)) n q.1) in
+          (p_repeat_while y.0.0 r.0, r.1, r.2, (word_kind word.Repeat ts kw, y.0.1, p.0, word_kind word.While y.0.1 q.0, r.3), omega (arith, r.4))) ]
+
+    deep_upper : (d : ℕ) (ts : Toks) (m : Option Name) (low : Exp) (o : RangeOperator) (us : Toks) (n : ℕ) → kind_at ts ≡ Some (kind.Word word.For) → binder_at (after ts) ≡ Some m → kind_at (after (after ts)) ≡ Some (kind.Word word.In)
+        → SpellsE low false Condition (after (after (after ts))) us → range_at us ≡ Some o → upper_with k d ts m low o us ≡ Err (Depth n) → DeepS d ts n
+    unfolding upper_with
+    deep_upper d ts m low o us n kw nm within spl op e = elim (bind_err (k (expression Condition) (d + 1) (after us)) (λ high. k body (d + 1) high.1 >>= λ b. done (loop_for (till (here ts) (blk_span b.0)) m low o (here us) high.0 b.0, b.1)) _ e) [
+        inl y ↦ (let r = dp (expression Condition) (d + 1) (after us) n y in (p_to m low o r.0, r.1, r.2, (kw, nm, within, us, spl, op, r.3), omega (arith, r.4)))
+      | inr y ↦ (
+          let p = snd (expression Condition) (d + 1) (after us) y.0 y.1 in
+          let r = dp body (d + 1) y.0.1 n (bind_deep (k body (d + 1) y.0.1) (λ b. (loop_for (till (here ts) (blk_span b.0)) m low o (here us) y.0.0 b.0, b.1)) n y.2) in
+          (p_for m low o y.0.0 r.0, r.1, r.2, (kw, nm, within, us, y.0.1, spl, op, p.0, r.3), omega (arith, r.4))) ]
+
+    deep_for : (d : ℕ) (ts : Toks) (n : ℕ) → is_word word.For ts ≡ true → for_with k d ts ≡ Err (Depth n) → DeepS d ts n
+    unfolding for_with lower_with
+    deep_for d ts n kw e =
+        let us = after (after (after ts)) in
+        let m = some_syn (binder_at (after ts)) (λ m. cond (is_word word.In (after (after ts))) (k (expression Condition) (d + 1) us >>= λ low. on_some (range_at low.1) (λ o. upper_with k d ts m low.0 o low.1) (syntax_at low.1)) (syntax_at (after (after ts)))) (length (after ts)) n e in
+        let q = syn (is_word word.In (after (after ts))) (k (expression Condition) (d + 1) us >>= λ low. on_some (range_at low.1) (λ o. upper_with k d ts m.0 low.0 o low.1) (syntax_at low.1)) _ n m.2 in
+        let within = word_kind word.In (after (after ts)) q.0 in
+        elim (bind_err (k (expression Condition) (d + 1) us) (λ low. on_some (range_at low.1) (λ o. upper_with k d ts m.0 low.0 o low.1) (syntax_at low.1)) _ q.1) [
+          inl y ↦ (let r = dp (expression Condition) (d + 1) us n y in (p_from m.0 r.0, r.1, r.2, (word_kind word.For ts kw, m.1, within, r.3), omega (arith, r.4)))
+        | inr y ↦ (
+            let p = snd (expression Condition) (d + 1) us y.0 y.1 in
+            let o = some_syn (range_at y.0.1) (λ o. upper_with k d ts m.0 y.0.0 o y.0.1) (length y.0.1) n y.2 in
+            deep_upper d ts m.0 y.0.0 o.0 y.0.1 n (word_kind word.For ts kw) m.1 within p.0 o.1 o.2) ]
+
+    deep_else : (d : ℕ) (ts mid : Toks) (c : Exp) (b : Blk) (us : Toks) (n : ℕ) → kind_at ts ≡ Some (kind.Word word.If) → SpellsE c false Condition (after ts) mid → SpellsB b mid us → else_with k d ts c b us ≡ Err (Depth n) → DeepS d ts n
+    unfolding else_with
+    deep_else d ts mid c b us n kw spc spb e = elim (chosen (is_word word.Else us) _ _ _ e) [
+        inr y ↦ absurd (no_ok _ n y.1)
+      | inl y ↦ elim (chosen (is_word word.If (after us)) _ _ _ y.1) [
+          inl z ↦ (
+            let r = dp statement (d + 1) (after us) n (bind_deep (k statement (d + 1) (after us)) (λ s. (else_if (till (here ts) (stm_span s.0)) c b s.0, s.1)) n z.1) in
+            (p_else_if c b r.0, r.1, r.2, (kw, mid, us, spc, spb, word_kind word.Else us y.0, r.3), omega (arith, r.4)))
+        | inr z ↦ (
+            let r = dp body (d + 1) (after us) n (bind_deep (k body (d + 1) (after us)) (λ s. (if_else (till (here ts) (blk_span s.0)) c b s.0, s.1)) n z.1) in
+            (p_if_else c b r.0, r.1, r.2, (kw, mid, us, spc, spb, word_kind word.Else us y.0, r.3), omega (arith, r.4))) ] ]
+
+    deep_if : (d : ℕ) (ts : Toks) (n : ℕ) → is_word word.If ts ≡ true → if_with k d ts ≡ Err (Depth n) → DeepS d ts n
+    unfolding if_with
+    deep_if d ts n kw e = elim (bind_err (k (expression Condition) (d + 1) (after ts)) (λ c. k body (d + 1) c.1 >>= λ b. else_with k d ts c.0 b.0 b.1) _ e) [
+        inl y ↦ (let r = dp (expression Condition) (d + 1) (after ts) n y in (p_if r.0, r.1, r.2, (word_kind word.If ts kw, r.3), omega (arith, r.4)))
+      | inr y ↦ (let p = snd (expression Condition) (d + 1) (after ts) y.0 y.1 in
+          elim (bind_err (k body (d + 1) y.0.1) (λ b. else_with k d ts y.0.0 b.0 b.1) _ y.2) [
+            inl z ↦ (let r = dp body (d + 1) y.0.1 n z in (p_if_then y.0.0 r.0, r.1, r.2, (word_kind word.If ts kw, y.0.1, p.0, r.3), omega (arith, r.4)))
+          | inr z ↦ (let q = snd body (d + 1) y.0.1 z.0 z.1 in deep_else d ts y.0.1 y.0.0 z.0.0 z.0.1 n (word_kind word.If ts kw) p.0 q.0 z.2) ]) ]
+
+    deep_switch : (d : ℕ) (ts : Toks) (n : ℕ) → is_word word.Switch ts ≡ true → switch_with k d ts ≡ Err (Depth n) → DeepS d ts n
+    unfolding switch_with
+    deep_switch d ts n kw e = elim (bind_err (k (expression Condition) (d + 1) (after ts)) (λ e. cond (is_mark mark.OpenBrace e.1) (k (clauses_on []) (d + 1) (after e.1) >>= λ cs. done (switch (till (here ts) (here cs.1)) e.0 (clauses_of cs.0), after cs.1)) (syntax_at e.1)) _ e) [
+        inl y ↦ (let r = dp (expression Condition) (d + 1) (after ts) n y in (p_subject r.0, r.1, r.2, (word_kind word.Switch ts kw, r.3), omega (arith, r.4)))
+      | inr y ↦ (
+          let p = snd (expression Condition) (d + 1) (after ts) y.0 y.1 in
+          let q = syn (is_mark mark.OpenBrace y.0.1) (k (clauses_on []) (d + 1) (after y.0.1) >>= λ cs. done (switch (till (here ts) (here cs.1)) y.0.0 (clauses_of cs.0), after cs.1)) _ n y.2 in
+          let r = dp (clauses_on []) (d + 1) (after y.0.1) n (bind_deep (k (clauses_on []) (d + 1) (after y.0.1)) (λ cs. (switch (till (here ts) (here cs.1)) y.0.0 (clauses_of cs.0), after cs.1)) n q.1) in
+          (p_switch y.0.0 r.0, r.1, r.2, (word_kind word.Switch ts kw, y.0.1, p.0, mark_kind mark.OpenBrace y.0.1 q.0, r.3), omega (arith, r.4))) ]
+
+    deep_return : (d : ℕ) (ts : Toks) (n : ℕ) → is_word word.Return ts ≡ true → return_with k d ts ≡ Err (Depth n) → DeepS d ts n
+    unfolding return_with
+    deep_return d ts n kw e = elim (chosen (is_bare (after ts)) _ _ _ e) [
+        inl y ↦ absurd (no_ok _ n y.1)
+      | inr y ↦ (
+          let r = dp (expression Plain) (d + 1) (after ts) n (bind_deep (k (expression Plain) (d + 1) (after ts)) (λ e. (return_value (till (here ts) (exp_span e.0)) e.0, e.1)) n y.1) in
+          (p_return r.0, r.1, r.2, (word_kind word.Return ts kw, y.0, r.3), omega (arith, r.4))) ]
+
+    deep_assign : (d : ℕ) (ts us : Toks) (x : Exp) (o : AssignOperator) (n : ℕ) → SpellsE x false Plain ts us → assign_at us ≡ Some o → assign_with k d x us o ≡ Err (Depth n) → DeepS d ts n
+    unfolding assign_with
+    deep_assign d ts us x o n sp op e = elim (some_or (path_in x) (λ p. k (expression Plain) (d + 1) (after us) >>= λ y. done (assign (till p.span (exp_span y.0)) p o (here us) y.0, y.1)) (done (evaluate x, us)) _ e) [
+        inr y ↦ absurd (no_ok _ n y.1)
+      | inl p ↦ (
+          let spp : SpellsPath p.0 ts us = rw (path_in_is x p.0 p.1) at sp in
+          let r = dp (expression Plain) (d + 1) (after us) n (bind_deep (k (expression Plain) (d + 1) (after us)) (λ y. (assign (till p.0.span (exp_span y.0)) p.0 o (here us) y.0, y.1)) n p.2) in
+          (p_assign p.0 o r.0, r.1, r.2, (us, spp, op, r.3), omega (arith, r.4))) ]
+
+    deep_evaluate : (d : ℕ) (ts : Toks) (n : ℕ) → evaluate_with most k d ts ≡ Err (Depth n) → DeepS d ts n
+    unfolding evaluate_with
+    deep_evaluate d ts n e = elim (bind_err (expression_with most k Plain (d + 1) ts) (λ c. on_some (assign_at c.1) (assign_with k d c.0 c.1) (done (evaluate c.0, c.1))) _ e) [
+        inl y ↦ (let r = deep_expression Plain (d + 1) ts n y in (p_evaluate r.0, r.1, r.2, r.3, omega (arith, r.4)))
+      | inr y ↦ (let p = sound_expression most k snd Plain (d + 1) ts y.0 y.1 in elim (some_or (assign_at y.0.1) (assign_with k d y.0.0 y.0.1) (done (evaluate y.0.0, y.0.1)) _ y.2) [
+          inr z ↦ absurd (no_ok _ n z.1)
+        | inl o ↦ deep_assign d ts y.0.1 y.0.0 o.0 n p.0 o.1 o.2 ]) ]
+
+    deep_simple : (d : ℕ) (ts : Toks) (n : ℕ) → simple_with most k d ts ≡ Err (Depth n) → DeepS d ts n
+    unfolding simple_with discard_with
+    deep_simple d ts n e = elim (chosen (is_mark mark.Underscore ts) _ _ _ e) [
+        inl y ↦ deep_ignore d ts n y.0 y.1
+      | inr y ↦ elim (chosen (is_word word.Discard ts) _ _ _ y.1) [
+          inl z ↦ absurd (let q = syn (is_word word.SelfValue (after ts)) (done (discard_self (till (here ts) (here (after ts))), after (after ts))) _ n z.1 in no_ok _ n q.1)
+        | inr z ↦ elim (chosen (is_word word.Break ts) _ _ _ z.1) [
+            inl u ↦ absurd (no_ok _ n u.1)
+          | inr u ↦ elim (chosen (is_word word.Continue ts) _ _ _ u.1) [
+              inl v ↦ absurd (no_ok _ n v.1)
+            | inr v ↦ elim (chosen (is_word word.Return ts) _ _ _ v.1) [
+                inl w ↦ deep_return d ts n w.0 w.1
+              | inr w ↦ deep_evaluate d ts n w.1 ] ] ] ] ]
+
+    deep_statement : (d : ℕ) (ts : Toks) (n : ℕ) → statement_with most k d ts ≡ Err (Depth n) → DeepS d ts n
+    unfolding statement_with
+    deep_statement d ts n e = elim (lim d most (on_some (keyword_at ts) (let_with k d ts) (cond (is_word word.If ts) (if_with k d ts) (cond (is_word word.While ts) (while_with k d ts) (cond (is_word word.Repeat ts) (repeat_with k d ts) (cond (is_word word.For ts) (for_with k d ts) (cond (is_word word.Switch ts) (switch_with k d ts) (simple_with most k d ts))))))) (length ts) n e) [
+        inr y ↦ (gone_stm, ts, y.1, refl, omega (arith, y.0))
+      | inl q ↦ elim (some_or (keyword_at ts) (let_with k d ts) (cond (is_word word.If ts) (if_with k d ts) (cond (is_word word.While ts) (while_with k d ts) (cond (is_word word.Repeat ts) (repeat_with k d ts) (cond (is_word word.For ts) (for_with k d ts) (cond (is_word word.Switch ts) (switch_with k d ts) (simple_with most k d ts)))))) _ q.1) [
+          inl y ↦ deep_let d ts y.0 n y.1 y.2
+        | inr y ↦ elim (chosen (is_word word.If ts) _ _ _ y.1) [
+            inl z ↦ deep_if d ts n z.0 z.1
+          | inr z ↦ elim (chosen (is_word word.While ts) _ _ _ z.1) [
+              inl u ↦ deep_while d ts n u.0 u.1
+            | inr u ↦ elim (chosen (is_word word.Repeat ts) _ _ _ u.1) [
+                inl v ↦ deep_repeat d ts n v.0 v.1
+              | inr v ↦ elim (chosen (is_word word.For ts) _ _ _ v.1) [
+                  inl w ↦ deep_for d ts n w.0 w.1
+                | inr w ↦ elim (chosen (is_word word.Switch ts) _ _ _ w.1) [
+                    inl f ↦ deep_switch d ts n f.0 f.1
+                  | inr f ↦ deep_simple d ts n f.1 ] ] ] ] ] ] ]
+
+    sep_no_depth : (bare : Bool) (ts : Toks) (n : ℕ) → sep_at bare ts ≡ Err (Depth n) → ⊥
+    unfolding sep_at
+    sep_no_depth bare ts n e = elim (chosen (is_mark mark.Semicolon ts) _ _ _ e) [
+        inl y ↦ no_ok _ n y.1
+      | inr y ↦ (let q = syn (ends_after bare ts) (done ts) _ n y.1 in no_ok _ n q.1) ]
+
+    deep_separated : (d : ℕ) (ts : Toks) (n : ℕ) → separated_with most k d ts ≡ Err (Depth n) → DeepS d ts n
+    unfolding separated_with
+    deep_separated d ts n e = elim (bind_err (statement_with most k d ts) (λ s. sep_at (is_return s.0) s.1 >>= λ next. done (s.0, next)) _ e) [
+        inl y ↦ deep_statement d ts n y
+      | inr y ↦ absurd (sep_no_depth (is_return y.0.0) y.0.1 n (bind_deep (sep_at (is_return y.0.0) y.0.1) (λ next. (y.0.0, next)) n y.2)) ]
+
+    deep_statements : (xs : List Stm) (d : ℕ) (ts : Toks) (n : ℕ) → statements_with most k xs d ts ≡ Err (Depth n) → DeepL d ts n
+    unfolding statements_with
+    deep_statements xs d ts n e = elim (chosen (is_mark mark.CloseBrace ts) _ _ _ e) [
+        inl y ↦ absurd (no_ok _ n y.1)
+      | inr y ↦ elim (bind_err (separated_with most k d ts) (λ s. k (statements_on (xs ++ s.0 ∷ [])) d s.1) _ y.1) [
+          inl z ↦ (let r = deep_separated d ts n z in (p_stm r.0, r.1, r.2, r.3, r.4))
+        | inr z ↦ (let p = sound_separated most k snd d ts z.0 z.1 in let r = dp (statements_on (xs ++ z.0.0 ∷ [])) d z.0.1 n z.2 in
+            (p_next z.0.0 r.0, r.1, r.2, (p.0, z.0.1, p.1, p.2, r.3), omega (arith, r.4))) ] ]
+
+    -- ---- clauses
+
+    deep_clause_statements : (xs : List Stm) (d : ℕ) (ts : Toks) (n : ℕ) → clause_statements_with most k xs d ts ≡ Err (Depth n) → DeepL d ts n
+    unfolding clause_statements_with
+    deep_clause_statements xs d ts n e = elim (bind_err (separated_with most k d ts) (λ s. cond (ends_clause s.1) (done (xs ++ s.0 ∷ [], s.1)) (k (clause_on (xs ++ s.0 ∷ [])) d s.1)) _ e) [
+        inl z ↦ (let r = deep_separated d ts n z in (p_stm r.0, r.1, r.2, r.3, r.4))
+      | inr z ↦ (let p = sound_separated most k snd d ts z.0 z.1 in elim (chosen (ends_clause z.0.1) (done (xs ++ z.0.0 ∷ [], z.0.1)) (k (clause_on (xs ++ z.0.0 ∷ [])) d z.0.1) _ z.2) [
+          inl y ↦ absurd (no_ok _ n y.1)
+        | inr y ↦ (let r = dp (clause_on (xs ++ z.0.0 ∷ [])) d z.0.1 n y.1 in (p_next z.0.0 r.0, r.1, r.2, (p.0, z.0.1, p.1, p.2, r.3), omega (arith, r.4))) ]) ]
+
+    deep_where : (p : Pat) (ps : Pats) (d : ℕ) (ts us : Toks) (n : ℕ) → kind_at ts ≡ Some (kind.Word word.Case) → SpellsPats (pat p ps) (after ts) us → where_with k d (pats_in (pat p ps)) us ≡ Err (Depth n) → DeepC d ts n
+    unfolding where_with pats_in
+    deep_where p no_pats d ts us n kw sp e = elim (chosen (is_word word.Where us) _ _ _ e) [
+        inr y ↦ absurd (no_ok _ n y.1)
+      | inl y ↦ (
+          let r = dp (expression Plain) d (after us) n (bind_deep (k (expression Plain) d (after us)) (λ e. (case_where p e.0, e.1)) n y.1) in
+          (p_where p r.0, r.1, r.2, (kw, us, sp, word_kind word.Where us y.0, r.3), omega (arith, r.4))) ]
+    deep_where p (pat q ps) d ts us n kw sp e = absurd (no_ok _ n e)
+
+    deep_head : (d : ℕ) (ts : Toks) (n : ℕ) → head_with k d ts ≡ Err (Depth n) → DeepC d ts n
+    unfolding head_with
+    deep_head d ts n e = elim (chosen (is_word word.Case ts) (read_pattern (patterns_on []) (after ts) >>= λ ps. where_with k d ps.0 ps.1) (cond (is_word word.Default ts) (done (default, after ts)) (syntax_at ts)) _ e) [
+        inl y ↦ elim (bind_err (read_pattern (patterns_on []) (after ts)) (λ ps. where_with k d ps.0 ps.1) _ y.1) [
+          inl z ↦ absurd (pats_shallow (after ts) n z)
+        | inr z ↦ (let s = pats_sound (after ts) z.0 z.1 in deep_where s.0 s.1 d ts z.0.1 n (word_kind word.Case ts y.0) s.3 (rw s.2 at z.2)) ]
+      | inr y ↦ absurd (let q = syn (is_word word.Default ts) (done (default, after ts)) _ n y.1 in no_ok _ n q.1) ]
+
+    deep_clause : (d : ℕ) (ts : Toks) (n : ℕ) → clause_with k d ts ≡ Err (Depth n) → DeepC d ts n
+    unfolding clause_with
+    deep_clause d ts n e = elim (bind_err (head_with k d ts) (λ h. cond (is_mark mark.Colon h.1) (k (clause_on []) d (after h.1) >>= λ ss. done ((till (here ts) (stms_end (here h.1) (stms_of ss.0)), h.0, stms_of ss.0), ss.1)) (syntax_at h.1)) _ e) [
+        inl y ↦ deep_head d ts n y
+      | inr y ↦ (
+          let p = sound_head most k snd d ts y.0 y.1 in
+          let q = syn (is_mark mark.Colon y.0.1) (k (clause_on []) d (after y.0.1) >>= λ ss. done ((till (here ts) (stms_end (here y.0.1) (stms_of ss.0)), y.0.0, stms_of ss.0), ss.1)) _ n y.2 in
+          let r = dp (clause_on []) d (after y.0.1) n (bind_deep (k (clause_on []) d (after y.0.1)) (λ ss. ((till (here ts) (stms_end (here y.0.1) (stms_of ss.0)), y.0.0, stms_of ss.0), ss.1)) n q.1) in
+          (p_clause y.0.0 r.0, r.1, r.2, (y.0.1, p.0, mark_kind mark.Colon y.0.1 q.0, r.3), omega (arith, r.4))) ]
+
+    deep_clauses : (xs : List Cla) (d : ℕ) (ts : Toks) (n : ℕ) → clauses_with k xs d ts ≡ Err (Depth n) → DeepC d ts n
+    unfolding clauses_with
+    deep_clauses xs d ts n e = elim (chosen (is_mark mark.CloseBrace ts) _ _ _ e) [
+        inl y ↦ absurd (no_ok _ n y.1)
+      | inr y ↦ elim (bind_err (clause_with k d ts) (λ c. k (clauses_on (xs ++ c.0 ∷ [])) d c.1) _ y.1) [
+          inl z ↦ deep_clause d ts n z
+        | inr z ↦ (let p = sound_clause most k snd d ts z.0 z.1 in let r = dp (clauses_on (xs ++ z.0.0 ∷ [])) d z.0.1 n z.2 in
+            (p_next_clause z.0.0.1 z.0.0.2 r.0, r.1, r.2, (p.0, z.0.1, p.1, p.2, p.3, r.3), omega (arith, r.4))) ] ]
+
+    deep_block : (d : ℕ) (ts : Toks) (n : ℕ) → block_with most k d ts ≡ Err (Depth n) → DeepB d ts n
+    unfolding block_with
+    deep_block d ts n e = elim (lim d most (cond (is_mark mark.OpenBrace ts) (k (statements_on []) (d + 1) (after ts) >>= λ ss. done (block (till (here ts) (here ss.1)) (stms_of ss.0), after ss.1)) (syntax_at ts)) (length ts) n e) [
+        inr y ↦ (gone_block, ts, y.1, refl, omega (arith, y.0))
+      | inl y ↦ (
+          let q = syn (is_mark mark.OpenBrace ts) (k (statements_on []) (d + 1) (after ts) >>= λ ss. done (block (till (here ts) (here ss.1)) (stms_of ss.0), after ss.1)) (length ts) n y.1 in
+          let r = dp (statements_on []) (d + 1) (after ts) n (bind_deep (k (statements_on []) (d + 1) (after ts)) (λ ss. (block (till (here ts) (here ss.1)) (stms_of ss.0), after ss.1)) n q.1) in
+          (p_block r.0, r.1, r.2, (mark_kind mark.OpenBrace ts q.0, r.3), omega (arith, r.4))) ]
+
+    deep_step : Deeps (step most k)
+    unfolding step
+    deep_step (expression context) d ts n e = deep_expression context d ts n e
+    deep_step (operand context) d ts n e = deep_pre true context d ts n e
+    deep_step (operators_on j context a) d ts n e = deep_operators j context a d ts n e
+    deep_step (calls_on context f) d ts n e = deep_calls context f d ts n e
+    deep_step (arguments_on xs) d ts n e = deep_arguments xs d ts n e
+    deep_step statement d ts n e = deep_statement d ts n e
+    deep_step (statements_on xs) d ts n e = deep_statements xs d ts n e
+    deep_step (clause_on xs) d ts n e = deep_clause_statements xs d ts n e
+    deep_step (clauses_on xs) d ts n e = deep_clauses xs d ts n e
+    deep_step body d ts n e = deep_block d ts n e
+
+  deep_at : (fuel : ℕ) → Deeps (read_at most fuel)
+  unfolding read_at
+  deep_at zero g d ts n e = absurd cc
+  deep_at (suc fuel) g d ts n e = deep_step (read_at most fuel) (sound_at most fuel) (deep_at fuel) g d ts n e
+
+  -- Depth comes only where the tokens before the named one stand a level too deep.
+  pub block_depth : (d : ℕ) (ts : Toks) (n : ℕ) → read most body d ts ≡ Err (Depth n) → DeepB d ts n
+  unfolding read
+  block_depth d ts n e = deep_at (suc (length ts)) body d ts n e

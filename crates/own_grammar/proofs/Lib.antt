@@ -11,3 +11,4 @@ pub mod Sound
 pub mod Shorter
 pub mod Same
 pub mod Deep
+pub mod Laws
