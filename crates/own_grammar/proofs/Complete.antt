@@ -28,7 +28,7 @@ use Rattle.own_grammar.specs.Nesting.{exp_span, clo_span, level, chains, level_o
 use Rattle.own_grammar.specs.Spells.{IsLeft, Labels, SpellsCase, SpellsPath, SpellsE, SpellsG, SpellsA, SpellsK, SpellsS, SpellsL, SpellsN, SpellsH, SpellsC, SpellsB, SpellsPats, SpellsPat, Sep, Typed, Ignored, ends_after}
 use Rattle.own_grammar.specs.Reading.{Fault, Syntax, Depth, Read, ◌>>=◌, syntax_at, depth_at, on_some, Goal, expression, operand, operators_on, calls_on, arguments_on, Out, Reader, path_from, path_with, parenthesized_with, implicit_with, literal_in, literal_at, primary_with, post_with, prefix_with, consume_with, pre_with, level_with, next_with, operator_with, operators_with, branches_with, choice_with, expression_with, closure_with, address_with, given_with, argument_with, arguments_with, all_arguments_with, called_with, call_with, closing_with, member_with, calls_with, step, statement, statements_on, clause_on, clauses_on, body, typed_with, bound, bound_with, let_with, ignore_with, discard_with, else_with, if_with, while_with, repeat_with, upper_with, lower_with, for_with, switch_with, return_with, path_in, assign_with, evaluate_with, simple_with, statement_with, sep_at, separated_with, statements_with, ends_clause, clause_statements_with, where_with, head_with, clause_with, clauses_with, block_with, patterns_on, read_pattern}
 use Rattle.own_grammar.proofs.Facts.{number_kind, text_kind, name_kind, truth_kind, truth_word, root_kind, root_kind_of, mark_kind, word_kind, at_mark, at_word, opens_kind, closes_kind, assigns_kind, label_name, prefix_mark, unary_kind, negative_kind, no_negative, no_unary, negative_no_unary}
-use Rattle.own_grammar.proofs.Edges.{Breaks, After, after_sep, no_semicolon, no_keyword, at_keyword, not_annotates, name_binder, mark_no_binder, not_clause, start_no_clause, keyword_no_clause, no_brace, stops_range, stops_assign, stops_condition, can_start, starts_at, starts_truth, starts_root, starts_prefix, no_word, no_mark, clash, level_in, Stops, stops_at, stops_brace, stops_question, stops_operator, not_opens, not_closes, weaker}
+use Rattle.own_grammar.proofs.Edges.{sep_is, Breaks, After, after_sep, no_semicolon, no_keyword, at_keyword, not_annotates, name_binder, mark_no_binder, not_clause, start_no_clause, keyword_no_clause, no_brace, stops_range, stops_assign, stops_condition, can_start, starts_at, starts_truth, starts_root, starts_prefix, no_word, no_mark, clash, level_in, Stops, stops_at, stops_brace, stops_question, stops_operator, not_opens, not_closes, weaker}
 use Rattle.own_grammar.proofs.Steps.{bind_is, le_tells}
 use Rattle.own_grammar.proofs.Lists.{args_in, args_list, stms_in, stms_list, clauses_in, clauses_list, pats_in, pats_list}
 use Rattle.own_grammar.proofs.Paths.{path_from_is, path_is, typed_is}
@@ -593,11 +593,6 @@ module _ (most : ℕ) (R : Reader) (opened : (g : Goal) (d : ℕ) (ts : Toks) �
         expression_goal e Plain (d + 1) (after mid) to good sp br.stops (omega (arith, fit))) refl }
 
   -- ---- lists of statements
-
-  sep_is : (bare : Bool) (mid next : Toks) → Sep bare mid next → sep_at bare mid ≡ Ok next
-  unfolding sep_at
-  sep_is bare mid next (inl (semi, is)) = rw (is, at_mark mark.Semicolon mid _ semi) refl
-  sep_is bare mid next (inr (en, isnt, is)) = rw (is, no_semicolon mid isnt, en) refl
 
   separated_is : (s : Stm) (d : ℕ) (from mid next : Toks) → statement_with most R d from ≡ Ok (s, mid) → Sep (is_return s) mid next → separated_with most R d from ≡ Ok (s, next)
   unfolding separated_with

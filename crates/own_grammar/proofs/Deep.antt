@@ -28,7 +28,7 @@ use Rattle.own_grammar.specs.Nesting.{exp_span, clo_span, level, chains, level_o
 use Rattle.own_grammar.specs.Spells.{IsLeft, Labels, SpellsCase, SpellsPath, SpellsE, SpellsG, SpellsA, SpellsK, SpellsS, SpellsL, SpellsN, SpellsH, SpellsC, SpellsB, SpellsPats, SpellsPat, Sep, Typed, Ignored, ends_after}
 use Rattle.own_grammar.specs.Reading.{Fault, Syntax, Depth, Read, ◌>>=◌, syntax_at, depth_at, on_some, Goal, expression, operand, operators_on, calls_on, arguments_on, Out, Reader, path_from, path_with, parenthesized_with, implicit_with, literal_in, literal_at, primary_with, post_with, prefix_with, consume_with, pre_with, level_with, next_with, operator_with, operators_with, branches_with, choice_with, expression_with, closure_with, address_with, given_with, argument_with, arguments_with, all_arguments_with, called_with, call_with, closing_with, member_with, calls_with, step, statement, statements_on, clause_on, clauses_on, body, typed_with, bound, bound_with, let_with, ignore_with, discard_with, else_with, if_with, while_with, repeat_with, upper_with, lower_with, for_with, switch_with, return_with, path_in, assign_with, evaluate_with, simple_with, statement_with, sep_at, separated_with, statements_with, ends_clause, clause_statements_with, where_with, head_with, clause_with, clauses_with, block_with, patterns_on, read_pattern, read_at, read}
 use Rattle.own_grammar.proofs.Facts.{number_kind, text_kind, name_kind, truth_kind, truth_word, root_kind, root_kind_of, mark_kind, word_kind, at_mark, at_word, opens_kind, closes_kind, assigns_kind, label_name, prefix_mark, unary_kind, negative_kind, no_negative, no_unary, negative_no_unary}
-use Rattle.own_grammar.proofs.Edges.{Breaks, After, after_sep, no_semicolon, no_keyword, at_keyword, not_annotates, name_binder, mark_no_binder, not_clause, start_no_clause, keyword_no_clause, no_brace, stops_range, stops_assign, stops_condition, can_start, starts_at, starts_truth, starts_root, starts_prefix, no_word, no_mark, clash, level_in, Stops, stops_at, stops_brace, stops_question, stops_operator, not_opens, not_closes, weaker}
+use Rattle.own_grammar.proofs.Edges.{sep_no_depth, Breaks, After, after_sep, no_semicolon, no_keyword, at_keyword, not_annotates, name_binder, mark_no_binder, not_clause, start_no_clause, keyword_no_clause, no_brace, stops_range, stops_assign, stops_condition, can_start, starts_at, starts_truth, starts_root, starts_prefix, no_word, no_mark, clash, level_in, Stops, stops_at, stops_brace, stops_question, stops_operator, not_opens, not_closes, weaker}
 use Rattle.own_grammar.proofs.Steps.{bind_is, le_tells}
 use Rattle.own_grammar.proofs.Lists.{args_in, args_list, stms_in, stms_list, clauses_in, clauses_list, pats_in, pats_list}
 use Rattle.own_grammar.proofs.Paths.{path_from_is, path_is, typed_is}
@@ -44,7 +44,7 @@ use Rattle.own_grammar.specs.Tests.{word_root, text_at}
 use Rattle.own_grammar.proofs.Lengths.{after_short, after_le, path_short, typed_le, labels_le, sep_le, pat_short, pats_short, head_le}
 use Rattle.own_grammar.proofs.Facts.{operator_kind, binder_kind, keyword_kind}
 use Rattle.own_grammar.proofs.Shorter.{operator_short, short_e, short_g, short_a, short_k, short_s, short_n, short_h, short_b}
-use Rattle.own_grammar.proofs.Sound.{Sound, Spelled, left_of, sound_post, sound_primary_short, sound_primary, sound_level, sound_expression, sound_closure, sound_given, sound_argument, sound_all_arguments, sound_statement, sound_sep, sound_separated, sound_head, sound_clause, sound_at, nest_positive, path_in_is, never}
+use Rattle.own_grammar.proofs.Sound.{Sound, Spelled, left_of, sound_post, sound_primary_short, sound_primary, sound_level, sound_expression, sound_closure, sound_given, sound_argument, sound_all_arguments, sound_statement, sound_separated, sound_head, sound_clause, sound_at, nest_positive, path_in_is, never}
 use Rattle.own_grammar.proofs.Steps.{bind_err, bind_deep, syn, some_syn, lim, no_ok, no_syntax}
 use Rattle.own_grammar.proofs.Paths.{path_from_no_depth, path_no_depth, typed_no_depth}
 use Rattle.own_grammar.proofs.PatternsRead.{pats_shallow}
@@ -463,12 +463,6 @@ module _ (most : ℕ) where
                 | inr w ↦ elim (chosen (is_word word.Switch ts) _ _ _ w.1) [
                     inl f ↦ deep_switch d ts n f.0 f.1
                   | inr f ↦ deep_simple d ts n f.1 ] ] ] ] ] ] ]
-
-    sep_no_depth : (bare : Bool) (ts : Toks) (n : ℕ) → sep_at bare ts ≡ Err (Depth n) → ⊥
-    unfolding sep_at
-    sep_no_depth bare ts n e = elim (chosen (is_mark mark.Semicolon ts) _ _ _ e) [
-        inl y ↦ no_ok _ n y.1
-      | inr y ↦ (let q = syn (ends_after bare ts) (done ts) _ n y.1 in no_ok _ n q.1) ]
 
     deep_separated : (d : ℕ) (ts : Toks) (n : ℕ) → separated_with most k d ts ≡ Err (Depth n) → DeepS d ts n
     unfolding separated_with

@@ -1,5 +1,5 @@
 -- How an expression begins, and where an expression and a statement end.
-use Rattle.std.proofs.Common.{◌≡◌, ℕ, zero, suc, ◌+◌, ◌≤◌, ◌<◌, Bool, cond, true, false, not, ◌&&◌, ◌||◌, List, [], ◌∷◌, Option, Some, None, ◌⊎◌, inl, inr, refl, sym, ap, ◌∙◌, arith}
+use Rattle.std.proofs.Common.{◌≡◌, ℕ, zero, suc, ◌+◌, ◌≤◌, ◌<◌, Bool, cond, true, false, not, ◌&&◌, ◌||◌, List, [], ◌∷◌, Option, Some, None, Result, Ok, Err, ◌⊎◌, inl, inr, refl, sym, ap, ◌∙◌, arith}
 use Rattle.own_tree.specs.declared.token.Mark.{Mark}
 use Rattle.own_tree.specs.declared.token.Mark.TheVariants as mark
 use Rattle.own_tree.specs.declared.token.Word.{Word}
@@ -24,7 +24,8 @@ use Rattle.own_grammar.specs.declared.Context.TheVariants.{Plain, Condition, Ins
 use Rattle.own_grammar.specs.Tests.{Toks, after, kind_at, mark_is, is_mark, word_is, is_word, name_at, number_at, text_at, truth_at, root_at, binder_at, keyword_in, keyword_at, operator_in, operator_at, negative_at, unary_at, range_at, assign_in, assign_at, is_new_line, assigns, annotates, joins, allows, opens, closes, is_none, is_over, goes_on, ends, is_bare, label_at}
 use Rattle.own_grammar.specs.Nesting.{level}
 use Rattle.own_grammar.specs.Spells.{ends_after, Sep}
-use Rattle.own_grammar.specs.Reading.{ends_clause}
+use Rattle.own_grammar.specs.Reading.{ends_clause, Fault, Syntax, Depth, sep_at}
+use Rattle.own_grammar.proofs.Steps.{done, ok_is, chosen, kept, syn, no_ok}
 use Rattle.own_grammar.proofs.Facts.{and_true, and_false, not_true, or_false, or_true, if_none, number_kind, text_kind, name_kind, truth_word, truth_kind, root_kind_of, root_kind, keyword_word, keyword_kind, name_named, mark_kind, word_kind, at_mark, at_word, operator_mark, operator_kind, no_operator, prefix_mark, negative_kind, unary_kind, range_mark, range_kind, assign_mark, assign_kind}
 
 -- ---- how an expression begins
@@ -442,3 +443,22 @@ third false false c e = e
 pub no_brace : (ts : Toks) → ends_clause ts ≡ false → is_mark mark.CloseBrace ts ≡ false
 unfolding ends_clause
 no_brace ts e = third (is_word word.Case ts) (is_word word.Default ts) _ e
+
+-- ---- SEP
+
+pub sep_is : (bare : Bool) (mid next : Toks) → Sep bare mid next → sep_at bare mid ≡ Ok next
+unfolding sep_at
+sep_is bare mid next (inl (semi, is)) = rw (is, at_mark mark.Semicolon mid _ semi) refl
+sep_is bare mid next (inr (en, isnt, is)) = rw (is, no_semicolon mid isnt, en) refl
+
+pub sep_sound : (bare : Bool) (ts next : Toks) → sep_at bare ts ≡ Ok next → Sep bare ts next
+unfolding sep_at
+sep_sound bare ts next e = elim (chosen (is_mark mark.Semicolon ts) _ _ _ e) [
+    inl y ↦ inl (mark_kind mark.Semicolon ts y.0, sym (ok_is (after ts) next y.1))
+  | inr y ↦ (let q = kept (ends_after bare ts) _ _ next y.1 in inr (q.0, λ semi. clash _ (at_mark mark.Semicolon ts _ semi) y.0, sym (ok_is ts next q.1))) ]
+
+pub sep_no_depth : (bare : Bool) (ts : Toks) (n : ℕ) → sep_at bare ts ≡ Err (Depth n) → ⊥
+unfolding sep_at
+sep_no_depth bare ts n e = elim (chosen (is_mark mark.Semicolon ts) _ _ _ e) [
+    inl y ↦ no_ok _ n y.1
+  | inr y ↦ (let q = syn (ends_after bare ts) (done ts) _ n y.1 in no_ok _ n q.1) ]

@@ -12,3 +12,4 @@ pub mod Shorter
 pub mod Same
 pub mod Deep
 pub mod Laws
+pub mod ListLaws

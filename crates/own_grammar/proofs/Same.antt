@@ -44,7 +44,7 @@ use Rattle.own_grammar.specs.Tests.{word_root, text_at}
 use Rattle.own_grammar.proofs.Lengths.{after_short, after_le, path_short, typed_le, labels_le, sep_le, pat_short, pats_short, head_le}
 use Rattle.own_grammar.proofs.Facts.{operator_kind, binder_kind, keyword_kind}
 use Rattle.own_grammar.proofs.Shorter.{operator_short, short_e, short_g, short_a, short_k, short_s, short_n, short_h, short_b}
-use Rattle.own_grammar.proofs.Sound.{Sound, Spelled, sound_post, sound_primary_short, sound_level, sound_expression, sound_closure, sound_given, sound_argument, sound_all_arguments, sound_statement, sound_sep, sound_separated, sound_head, sound_clause, sound_at}
+use Rattle.own_grammar.proofs.Sound.{Sound, Spelled, sound_post, sound_primary_short, sound_level, sound_expression, sound_closure, sound_given, sound_argument, sound_all_arguments, sound_statement, sound_separated, sound_head, sound_clause, sound_at}
 use Rattle.own_grammar.proofs.Steps.{Near, same, deep, near_bind, near_cond, near_some, near_limit, equal}
 
 module _ (loose : Type 0) (most most' : ℕ) (limits : (most ≡ most') ⊎ (loose × (most ≤ most'))) (k k' : Reader) (snd : Sound most k) (n : ℕ) (agree : (g : Goal) (d : ℕ) (ts : Toks) → length ts < n → Near loose (k g d ts) (k' g d ts)) where

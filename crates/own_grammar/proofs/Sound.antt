@@ -28,7 +28,7 @@ use Rattle.own_grammar.specs.Nesting.{exp_span, clo_span, level, chains, level_o
 use Rattle.own_grammar.specs.Spells.{IsLeft, Labels, SpellsCase, SpellsPath, SpellsE, SpellsG, SpellsA, SpellsK, SpellsS, SpellsL, SpellsN, SpellsH, SpellsC, SpellsB, SpellsPats, SpellsPat, Sep, Typed, Ignored, ends_after}
 use Rattle.own_grammar.specs.Reading.{Fault, Syntax, Depth, Read, ◌>>=◌, syntax_at, depth_at, on_some, Goal, expression, operand, operators_on, calls_on, arguments_on, Out, Reader, path_from, path_with, parenthesized_with, implicit_with, literal_in, literal_at, primary_with, post_with, prefix_with, consume_with, pre_with, level_with, next_with, operator_with, operators_with, branches_with, choice_with, expression_with, closure_with, address_with, given_with, argument_with, arguments_with, all_arguments_with, called_with, call_with, closing_with, member_with, calls_with, step, statement, statements_on, clause_on, clauses_on, body, typed_with, bound, bound_with, let_with, ignore_with, discard_with, else_with, if_with, while_with, repeat_with, upper_with, lower_with, for_with, switch_with, return_with, path_in, assign_with, evaluate_with, simple_with, statement_with, sep_at, separated_with, statements_with, ends_clause, clause_statements_with, where_with, head_with, clause_with, clauses_with, block_with, patterns_on, read_pattern, read_at, read}
 use Rattle.own_grammar.proofs.Facts.{number_kind, text_kind, name_kind, truth_kind, truth_word, root_kind, root_kind_of, mark_kind, word_kind, at_mark, at_word, opens_kind, closes_kind, assigns_kind, label_name, prefix_mark, unary_kind, negative_kind, no_negative, no_unary, negative_no_unary}
-use Rattle.own_grammar.proofs.Edges.{Breaks, After, after_sep, no_semicolon, no_keyword, at_keyword, not_annotates, name_binder, mark_no_binder, not_clause, start_no_clause, keyword_no_clause, no_brace, stops_range, stops_assign, stops_condition, can_start, starts_at, starts_truth, starts_root, starts_prefix, no_word, no_mark, clash, level_in, Stops, stops_at, stops_brace, stops_question, stops_operator, not_opens, not_closes, weaker}
+use Rattle.own_grammar.proofs.Edges.{sep_sound, Breaks, After, after_sep, no_semicolon, no_keyword, at_keyword, not_annotates, name_binder, mark_no_binder, not_clause, start_no_clause, keyword_no_clause, no_brace, stops_range, stops_assign, stops_condition, can_start, starts_at, starts_truth, starts_root, starts_prefix, no_word, no_mark, clash, level_in, Stops, stops_at, stops_brace, stops_question, stops_operator, not_opens, not_closes, weaker}
 use Rattle.own_grammar.proofs.Steps.{bind_is, le_tells}
 use Rattle.own_grammar.proofs.Lists.{args_in, args_list, stms_in, stms_list, clauses_in, clauses_list, pats_in, pats_list}
 use Rattle.own_grammar.proofs.Paths.{path_from_is, path_is, typed_is}
@@ -618,19 +618,13 @@ module _ (most : ℕ) where
                     inl f ↦ sound_switch d ts x lt f.0 f.1
                   | inr f ↦ sound_simple d ts x lt f.1 ] ] ] ] ] ]
 
-    pub sound_sep : (bare : Bool) (ts next : Toks) → sep_at bare ts ≡ Ok next → Sep bare ts next
-    unfolding sep_at
-    sound_sep bare ts next e = elim (chosen (is_mark mark.Semicolon ts) _ _ _ e) [
-        inl y ↦ inl (mark_kind mark.Semicolon ts y.0, sym (ok_is (after ts) next y.1))
-      | inr y ↦ (let q = kept (ends_after bare ts) _ _ next y.1 in inr (q.0, λ semi. clash _ (at_mark mark.Semicolon ts _ semi) y.0, sym (ok_is ts next q.1))) ]
-
     pub sound_separated : (d : ℕ) (ts : Toks) (x : Stm × Toks) → separated_with most k d ts ≡ Ok x → (mid : Toks) × SpellsS x.0 ts mid × Sep (is_return x.0) mid x.1 × (d + nest_stm x.0 ≤ most)
     unfolding separated_with
     sound_separated d ts x e =
         let s = bind_ok (statement_with most k d ts) (λ s. sep_at (is_return s.0) s.1 >>= λ next. done (s.0, next)) x e in
         let p = sound_statement d ts s.0 s.1 in
         let n = bind_ok (sep_at (is_return s.0.0) s.0.1) (λ next. done (s.0.0, next)) x s.2 in
-        rw (← ok_is (s.0.0, n.0) x n.2) (s.0.1, p.0, sound_sep (is_return s.0.0) s.0.1 n.0 n.1, p.1)
+        rw (← ok_is (s.0.0, n.0) x n.2) (s.0.1, p.0, sep_sound (is_return s.0.0) s.0.1 n.0 n.1, p.1)
 
     sound_statements : (xs : List Stm) (d : ℕ) (ts : Toks) (x : List Stm × Toks) → statements_with most k xs d ts ≡ Ok x → Spelled (statements_on xs) d x.0 ts x.1
     unfolding statements_with stms_in

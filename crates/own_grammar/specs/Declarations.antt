@@ -26,7 +26,7 @@ use Rattle.own_grammar.specs.declared.Context.TheVariants.{Plain}
 use Rattle.own_grammar.specs.Tests.{Toks, after, here, till, kind_at, name_at, keyword_at, opens}
 use Rattle.own_grammar.specs.Nesting.{blk_span, nest_blk}
 use Rattle.own_grammar.specs.Spells.{SpellsB}
-use Rattle.own_grammar.specs.Lists.{Listed, Bracketed, Separated}
+use Rattle.own_grammar.specs.Lists.{Listed, Bracketed, Separated, greatest}
 
 -- ---- tests
 
@@ -196,19 +196,11 @@ nest_member (deinitializer s b) = nest_blk b
 nest_member (method s m f) = nest_blk f.body
 nest_member (cases s items) = 0
 
-abbrev pub nest_members : List Member → ℕ
-nest_members [] = 0
-nest_members (m ∷ ms) = max (nest_member m) (nest_members ms)
-
 abbrev pub nest_declaration : Decl → ℕ
-nest_declaration (struct_of s n b ms) = nest_members ms
-nest_declaration (enum_of s n b ms) = nest_members ms
+nest_declaration (struct_of s n b ms) = greatest nest_member ms
+nest_declaration (enum_of s n b ms) = greatest nest_member ms
 nest_declaration (function f) = nest_blk f.body
-
-abbrev pub nest_declarations : List Decl → ℕ
-nest_declarations [] = 0
-nest_declarations (d ∷ ds) = max (nest_declaration d) (nest_declarations ds)
 
 -- the greatest nesting of a body
 abbrev pub nest_file : File → ℕ
-nest_file f = nest_declarations f.declarations
+nest_file f = greatest nest_declaration f.declarations

@@ -1,5 +1,5 @@
 -- Lists of parts, as the declarations have them: with commas, in parentheses, and each with its SEP.
-use Rattle.std.specs.Prelude.{◌≡◌, ℕ, suc, zero, Bool, true, false, List, [], ◌∷◌, ◌++◌, length, Option, Some, None, Result, Ok, Err, if◌then◌else◌}
+use Rattle.std.specs.Prelude.{◌≡◌, ℕ, suc, zero, max, Bool, true, false, List, [], ◌∷◌, ◌++◌, length, Option, Some, None, Result, Ok, Err, if◌then◌else◌}
 use Rattle.own_tree.specs.declared.token.Kind.TheVariants.{Mark, Word}
 use Rattle.own_tree.specs.declared.token.Mark.TheVariants as mark
 use Rattle.own_grammar.specs.Tests.{Toks, after, kind_at, is_mark}
@@ -21,6 +21,11 @@ Bracketed S (x ∷ xs) from last = (kind_at from ≡ Some (Mark mark.OpenParen))
 abbrev pub Separated : {A : Type 0} → (A → Toks → Toks → Type 0) → List A → Toks → Toks → Type 0
 Separated S [] from to = to ≡ from
 Separated S (x ∷ xs) from to = (mid : Toks) × (next : Toks) × S x from mid × Sep true mid next × Separated S xs next to
+
+-- the greatest size of a part
+abbrev pub greatest : {A : Type 0} → (A → ℕ) → List A → ℕ
+greatest size [] = 0
+greatest size (x ∷ xs) = max (size x) (greatest size xs)
 
 -- ---- reading, with more fuel than there are tokens
 
