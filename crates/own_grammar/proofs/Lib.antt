@@ -13,3 +13,4 @@ pub mod Same
 pub mod Deep
 pub mod Laws
 pub mod ListLaws
+pub mod Parameters
