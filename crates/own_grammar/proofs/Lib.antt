@@ -14,3 +14,4 @@ pub mod Deep
 pub mod Laws
 pub mod ListLaws
 pub mod Parameters
+pub mod Members
