@@ -121,3 +121,215 @@ module _ (most : ℕ) where
 
   pub function_short : (f : Fun) (from to : Toks) → SpellsFunction f from to → length to < length from
   function_short f from to (mid, next, k, nm, ps, rs, sp, is) = (let a = after_le from in let b = after_le (after from) in let c = parameters_le f.parameters (after (after from)) mid ps in let d = returns_le f.result mid next rs in let e = short_b f.body next to sp in omega arith)
+
+-- ---- what the words of a member say
+
+record Changes (ts : Toks) : Type 0 where
+  pub keyword : keyword_at ts ≡ None
+  pub init : is_word word.Init ts ≡ false
+  pub deinit : is_word word.Deinit ts ≡ false
+  pub case_ : is_word word.Case ts ≡ false
+
+changing_word_is : (x : Word) (m : MethodMode) → word_changing x ≡ Some m → (keyword_in (Some (kind.Word x)) ≡ None) × (word_is word.Init (Some (kind.Word x)) ≡ false) × (word_is word.Deinit (Some (kind.Word x)) ≡ false) × (word_is word.Case (Some (kind.Word x)) ≡ false)
+changing_word_is word.Borrowing m e = (refl, refl, refl, refl)
+changing_word_is word.Consuming m e = (refl, refl, refl, refl)
+changing_word_is word.Mutating m e = (refl, refl, refl, refl)
+changing_word_is _ m e = absurd cc
+
+changing_kind_in : (x : Option Kind) (m : MethodMode) → changing_in x ≡ Some m → (w : Word) × (x ≡ Some (kind.Word w)) × (word_changing w ≡ Some m)
+changing_kind_in None m e = absurd cc
+changing_kind_in (Some (kind.Name x)) m e = absurd cc
+changing_kind_in (Some (kind.Word x)) m e = (x, refl, e)
+changing_kind_in (Some (kind.Number x)) m e = absurd cc
+changing_kind_in (Some (kind.Text x)) m e = absurd cc
+changing_kind_in (Some (kind.Mark x)) m e = absurd cc
+
+changing_kind : (ts : Toks) (m : MethodMode) → changing_at ts ≡ Some m → (w : Word) × (kind_at ts ≡ Some (kind.Word w)) × (word_changing w ≡ Some m)
+unfolding changing_at
+changing_kind ts m e = changing_kind_in (kind_at ts) m e
+
+no_changing : (ts : Toks) → kind_at ts ≡ Some (kind.Word word.Func) → changing_at ts ≡ None
+unfolding changing_at
+no_changing ts k = rw k refl
+
+changes : (ts : Toks) (m : MethodMode) → changing_at ts ≡ Some m → Changes ts
+changes ts m e = let k = changing_kind ts m e in let f = changing_word_is k.0 m k.2 in
+    record { keyword = at_keyword ts _ k.1 ∙ f.0; init = at_word word.Init ts _ k.1 ∙ f.1; deinit = at_word word.Deinit ts _ k.1 ∙ f.2; case_ = at_word word.Case ts _ k.1 ∙ f.3 }
+
+func_changes : (ts : Toks) → kind_at ts ≡ Some (kind.Word word.Func) → Changes ts
+func_changes ts k = record { keyword = at_keyword ts _ k; init = at_word word.Init ts _ k; deinit = at_word word.Deinit ts _ k; case_ = at_word word.Case ts _ k }
+
+method_changes : (s : Span) (m : Option MethodMode) (f : Fun) (from to : Toks) → SpellsMethod s m f from to → Changes from
+method_changes s None f from to (mid, is, sp, r) = func_changes from (let k = sp.2 in rw is at k)
+method_changes s (Some m) f from to (mid, (c, is), sp, r) = changes from m c
+
+method_word : (s : Span) (m : Option MethodMode) (f : Fun) (from to : Toks) → SpellsMethod s m f from to → (w : Word) × (kind_at from ≡ Some (kind.Word w))
+method_word s None f from to (mid, is, sp, r) = (word.Func, (let k = sp.2 in rw is at k))
+method_word s (Some m) f from to (mid, (c, is), sp, r) = (let k = changing_kind from m c in (k.0, k.1))
+
+module _ (most : ℕ) where
+
+  abbrev Reads : Member → Toks → Toks → Read Member → Type 0
+  Reads m from to r = Told most (nest_member m) r m to
+
+  -- ---- methods
+
+  method_told : (s : Span) (m : Option MethodMode) (f : Fun) (from to : Toks) → SpellsMethod s m f from to → Reads (method s m f) from to (method_with most from)
+  unfolding method_with
+  method_told s None f from to (mid, is, sp, r) =
+      let spf : SpellsFunction f from to = rw is at sp in
+      rw (no_changing from spf.2, r) (told_then most (nest_blk f.body) (function_with most from) (λ g. done (method (till (here from) g.0.span) None g.0, g.1)) f (method (till (here from) f.span) None f) to to (function_told most f from to spf) refl)
+  method_told s (Some m) f from to (mid, (c, is), sp, r) =
+      let spf : SpellsFunction f (after from) to = rw is at sp in
+      rw (c, r) (told_then most (nest_blk f.body) (function_with most (after from)) (λ g. done (method (till (here from) g.0.span) (Some m) g.0, g.1)) f (method (till (here from) f.span) (Some m) f) to to (function_told most f (after from) to spf) refl)
+
+  abbrev MethodRead : Member → Toks → Toks → Type 0
+  MethodRead x from to = SpellsStructMember x from to × SpellsEnumMember x from to × (nest_member x ≤ most)
+
+  method_sound : (ts : Toks) (x : Member × Toks) → method_with most ts ≡ Ok x → MethodRead x.0 ts x.1
+  unfolding method_with
+  method_sound ts x e = elim (some_or (changing_at ts) (λ m. function_with most (after ts) >>= λ f. done (method (till (here ts) f.0.span) (Some m) f.0, f.1)) (function_with most ts >>= λ f. done (method (till (here ts) f.0.span) None f.0, f.1)) _ e) [
+      inl m ↦ (
+        let c = bind_ok (function_with most (after ts)) (λ f. done (method (till (here ts) f.0.span) (Some m.0) f.0, f.1)) x m.2 in
+        let s = function_sound most (after ts) c.0 c.1 in
+        rw (← ok_is (method (till (here ts) c.0.0.span) (Some m.0) c.0.0, c.0.1) x c.2) ((after ts, (m.1, refl), s.0, refl), (after ts, (m.1, refl), s.0, refl), s.1))
+    | inr y ↦ (
+        let c = bind_ok (function_with most ts) (λ f. done (method (till (here ts) f.0.span) None f.0, f.1)) x y.1 in
+        let s = function_sound most ts c.0 c.1 in
+        rw (← ok_is (method (till (here ts) c.0.0.span) None c.0.0, c.0.1) x c.2) ((ts, refl, s.0, refl), (ts, refl, s.0, refl), s.1)) ]
+
+  abbrev DeepM : (PMember → Toks → Toks → Type 0) → Toks → ℕ → Type 0
+  DeepM P ts n = (m : PMember) × (at_ : Toks) × (length at_ ≡ n) × P m ts at_ × (most < nest_pm m)
+
+  method_deep : (ts : Toks) (n : ℕ) → method_with most ts ≡ Err (Depth n) → DeepM PartStructMember ts n × DeepM PartEnumMember ts n
+  unfolding method_with
+  method_deep ts n e = elim (some_or (changing_at ts) (λ m. function_with most (after ts) >>= λ f. done (method (till (here ts) f.0.span) (Some m) f.0, f.1)) (function_with most ts >>= λ f. done (method (till (here ts) f.0.span) None f.0, f.1)) _ e) [
+      inl m ↦ (
+        let d = function_deep most (after ts) n (bind_deep (function_with most (after ts)) (λ f. (method (till (here ts) f.0.span) (Some m.0) f.0, f.1)) n m.2) in
+        ((p_method (Some m.0) d.0, d.1, d.2, (after ts, (m.1, refl), d.3), d.4), (p_method (Some m.0) d.0, d.1, d.2, (after ts, (m.1, refl), d.3), d.4)))
+    | inr y ↦ (
+        let d = function_deep most ts n (bind_deep (function_with most ts) (λ f. (method (till (here ts) f.0.span) None f.0, f.1)) n y.1) in
+        ((p_method None d.0, d.1, d.2, (ts, refl, d.3), d.4), (p_method None d.0, d.1, d.2, (ts, refl, d.3), d.4))) ]
+
+  changing_le : (m : Option MethodMode) (from mid : Toks) → Changing m from mid → length mid ≤ length from
+  changing_le None from mid is = rw is (omega arith)
+  changing_le (Some m) from mid (c, is) = rw is (after_le from)
+
+  method_short : (s : Span) (m : Option MethodMode) (f : Fun) (from to : Toks) → SpellsMethod s m f from to → length to < length from
+  method_short s m f from to (mid, c, sp, r) = (let a = changing_le m from mid c in let b = function_short most f mid to sp in omega arith)
+
+  -- ---- `deinit`
+
+  deinit_told : (s : Span) (b : Blk) (from to : Toks) → SpellsDeinitializer s b from to → Reads (deinitializer s b) from to (deinitializer_with most from)
+  unfolding deinitializer_with
+  deinit_told s b from to (k, sp, is) = rw is (told_then most (nest_blk b) (read most body 0 (after from)) (λ c. done (deinitializer (till (here from) (blk_span c.0)) c.0, c.1)) b (deinitializer (till (here from) (blk_span b)) b) to to (block_told most b (after from) to sp) refl)
+
+  deinit_sound : (ts : Toks) (x : Member × Toks) → is_word word.Deinit ts ≡ true → deinitializer_with most ts ≡ Ok x → MethodRead x.0 ts x.1
+  unfolding deinitializer_with
+  deinit_sound ts x kw e =
+      let b = bind_ok (read most body 0 (after ts)) (λ b. done (deinitializer (till (here ts) (blk_span b.0)) b.0, b.1)) x e in
+      let f = block_found most 0 (after ts) b.0 b.1 in
+      let k = word_kind word.Deinit ts kw in
+      rw (← ok_is (deinitializer (till (here ts) (blk_span b.0.0)) b.0.0, b.0.1) x b.2) ((k, f.0, refl), (k, f.0, refl), omega (arith, f.1))
+
+  deinit_deep : (ts : Toks) (n : ℕ) → is_word word.Deinit ts ≡ true → deinitializer_with most ts ≡ Err (Depth n) → DeepM PartStructMember ts n × DeepM PartEnumMember ts n
+  unfolding deinitializer_with
+  deinit_deep ts n kw e =
+      let d = block_depth most 0 (after ts) n (bind_deep (read most body 0 (after ts)) (λ b. (deinitializer (till (here ts) (blk_span b.0)) b.0, b.1)) n e) in
+      let k = word_kind word.Deinit ts kw in
+      ((p_deinitializer d.0, d.1, d.2, (k, d.3), omega (arith, d.4)), (p_deinitializer d.0, d.1, d.2, (k, d.3), omega (arith, d.4)))
+
+  -- ---- members of a struct
+
+  field_same : (f : Field) (s : Span) → f.span ≡ s → record { span = s; keyword = f.keyword; name = f.name; written = f.written } ≡ f
+  field_same f s e = rw (← e) refl
+
+  field_is : (f : Field) (from to : Toks) → SpellsField f from to → field_with from f.keyword ≡ Ok (field f, to)
+  unfolding field_with wanted
+  field_is f from to (kw, nm, colon, ty, is, s) = rw (nm, at_mark mark.Colon (after (after from)) _ colon, ty, is) (ap (λ (g : Field). Ok (field g, after (after (after (after from))))) (field_same f _ s))
+
+  init_told : (s : Span) (ps : List Parameter) (b : Blk) (from mid to : Toks) → SpellsParameters ps (after from) mid → SpellsB b mid to → s ≡ till (here from) (blk_span b) → Reads (initializer s ps b) from to (initializer_with most from)
+  unfolding initializer_with
+  init_told s ps b from mid to sps sp is = rw (is, parameters_is ps (after from) mid sps) (told_then most (nest_blk b) (read most body 0 mid) (λ c. done (initializer (till (here from) (blk_span c.0)) ps c.0, c.1)) b (initializer (till (here from) (blk_span b)) ps b) to to (block_told most b mid to sp) refl)
+
+  pub struct_member_told : (m : Member) (from to : Toks) → SpellsStructMember m from to → Reads m from to (struct_member_with most from)
+  unfolding struct_member_with
+  struct_member_told (field f) from to sp = told_ok most _ (field f) to (rw sp.0 (field_is f from to sp))
+  struct_member_told (initializer s ps b) from to (mid, k, sps, sp, is) = rw (at_keyword from _ k, at_word word.Init from _ k) (init_told s ps b from mid to sps sp is)
+  struct_member_told (deinitializer s b) from to sp = let k = sp.0 in rw (at_keyword from _ k, at_word word.Init from _ k, at_word word.Deinit from _ k) (deinit_told s b from to sp)
+  struct_member_told (method s m f) from to sp = let c = method_changes s m f from to sp in rw (c.keyword, c.init, c.deinit) (method_told s m f from to sp)
+  struct_member_told (cases s items) from to sp = absurd sp
+
+  abbrev MemberRead : (Member → Toks → Toks → Type 0) → Member → Toks → Toks → Type 0
+  MemberRead S x from to = S x from to × (nest_member x ≤ most)
+
+  abbrev field_made : Toks → Keyword → Name → Name → Member
+  field_made ts k n t = field (record { span = till (here ts) (here (after (after (after ts)))); keyword = k; name = n; written = t })
+
+  field_sound : (ts : Toks) (k : Keyword) (x : Member × Toks) → keyword_at ts ≡ Some k → field_with ts k ≡ Ok x → MemberRead SpellsStructMember x.0 ts x.1
+  unfolding field_with
+  field_sound ts k x kw e =
+      let us = after (after (after ts)) in
+      let n = some_kept (name_at (after ts)) (λ n. wanted (is_mark mark.Colon (after (after ts))) (after (after ts)) (on_some (name_at us) (λ t. done (field_made ts k n t, after us)) (syntax_at us))) (Syntax (length (after ts))) x e in
+      let q = wanted_ok (is_mark mark.Colon (after (after ts))) (after (after ts)) (on_some (name_at us) (λ t. done (field_made ts k n.0 t, after us)) (syntax_at us)) x n.2 in
+      let t = some_kept (name_at us) (λ t. done (field_made ts k n.0 t, after us)) (Syntax (length us)) x q.1 in
+      rw (← ok_is (field_made ts k n.0 t.0, after us) x t.2) ((kw, n.1, mark_kind mark.Colon (after (after ts)) q.0, t.1, refl, refl), omega arith)
+
+  init_sound : (ts : Toks) (x : Member × Toks) → is_word word.Init ts ≡ true → initializer_with most ts ≡ Ok x → MemberRead SpellsStructMember x.0 ts x.1
+  unfolding initializer_with
+  init_sound ts x kw e =
+      let p = bind_ok (parameters_with (after ts)) (λ ps. read most body 0 ps.1 >>= λ b. done (initializer (till (here ts) (blk_span b.0)) ps.0 b.0, b.1)) x e in
+      let b = bind_ok (read most body 0 p.0.1) (λ b. done (initializer (till (here ts) (blk_span b.0)) p.0.0 b.0, b.1)) x p.2 in
+      let f = block_found most 0 p.0.1 b.0 b.1 in
+      rw (← ok_is (initializer (till (here ts) (blk_span b.0.0)) p.0.0 b.0.0, b.0.1) x b.2) ((p.0.1, word_kind word.Init ts kw, parameters_sound (after ts) p.0 p.1, f.0, refl), omega (arith, f.1))
+
+  pub struct_member_sound : (ts : Toks) (x : Member × Toks) → struct_member_with most ts ≡ Ok x → MemberRead SpellsStructMember x.0 ts x.1
+  unfolding struct_member_with
+  struct_member_sound ts x e = elim (some_or (keyword_at ts) (field_with ts) (cond (is_word word.Init ts) (initializer_with most ts) (cond (is_word word.Deinit ts) (deinitializer_with most ts) (method_with most ts))) _ e) [
+      inl k ↦ field_sound ts k.0 x k.1 k.2
+    | inr y ↦ elim (chosen (is_word word.Init ts) _ _ _ y.1) [
+        inl z ↦ init_sound ts x z.0 z.1
+      | inr z ↦ elim (chosen (is_word word.Deinit ts) _ _ _ z.1) [
+          inl u ↦ (let d = deinit_sound ts x u.0 u.1 in (d.0, d.2))
+        | inr u ↦ (let m = method_sound ts x u.1 in (m.0, m.2)) ] ] ]
+
+  field_shallow : (ts : Toks) (k : Keyword) (n : ℕ) → field_with ts k ≡ Err (Depth n) → ⊥
+  unfolding field_with
+  field_shallow ts k n e =
+      let us = after (after (after ts)) in
+      let m = some_syn (name_at (after ts)) (λ n. wanted (is_mark mark.Colon (after (after ts))) (after (after ts)) (on_some (name_at us) (λ t. done (field_made ts k n t, after us)) (syntax_at us))) (length (after ts)) n e in
+      let q = wanted_deep (is_mark mark.Colon (after (after ts))) (after (after ts)) (on_some (name_at us) (λ t. done (field_made ts k m.0 t, after us)) (syntax_at us)) n m.2 in
+      let t = some_syn (name_at us) (λ t. done (field_made ts k m.0 t, after us)) (length us) n q.1 in
+      no_ok _ n t.2
+
+  init_deep : (ts : Toks) (n : ℕ) → is_word word.Init ts ≡ true → initializer_with most ts ≡ Err (Depth n) → DeepM PartStructMember ts n
+  unfolding initializer_with
+  init_deep ts n kw e = elim (bind_err (parameters_with (after ts)) (λ ps. read most body 0 ps.1 >>= λ b. done (initializer (till (here ts) (blk_span b.0)) ps.0 b.0, b.1)) _ e) [
+      inl y ↦ absurd (parameters_shallow (after ts) n y)
+    | inr p ↦ (
+        let d = block_depth most 0 p.0.1 n (bind_deep (read most body 0 p.0.1) (λ b. (initializer (till (here ts) (blk_span b.0)) p.0.0 b.0, b.1)) n p.2) in
+        (p_initializer p.0.0 d.0, d.1, d.2, (p.0.1, word_kind word.Init ts kw, parameters_sound (after ts) p.0 p.1, d.3), omega (arith, d.4))) ]
+
+  pub struct_member_deep : (ts : Toks) (n : ℕ) → struct_member_with most ts ≡ Err (Depth n) → DeepM PartStructMember ts n
+  unfolding struct_member_with
+  struct_member_deep ts n e = elim (some_or (keyword_at ts) (field_with ts) (cond (is_word word.Init ts) (initializer_with most ts) (cond (is_word word.Deinit ts) (deinitializer_with most ts) (method_with most ts))) _ e) [
+      inl k ↦ absurd (field_shallow ts k.0 n k.2)
+    | inr y ↦ elim (chosen (is_word word.Init ts) _ _ _ y.1) [
+        inl z ↦ init_deep ts n z.0 z.1
+      | inr z ↦ elim (chosen (is_word word.Deinit ts) _ _ _ z.1) [
+          inl u ↦ (deinit_deep ts n u.0 u.1).0
+        | inr u ↦ (method_deep ts n u.1).0 ] ] ]
+
+  pub struct_member_short : (m : Member) (from to : Toks) → SpellsStructMember m from to → length to < length from
+  struct_member_short (field f) from to (kw, nm, colon, ty, is, s) = rw is (let a = after_short from _ (keyword_kind from f.keyword kw) in let b = after_le (after from) in let c = after_le (after (after from)) in let d = after_le (after (after (after from))) in omega arith)
+  struct_member_short (initializer s ps b) from to (mid, k, sps, sp, is) = (let a = after_le from in let c = parameters_le ps (after from) mid sps in let d = short_b b mid to sp in omega arith)
+  struct_member_short (deinitializer s b) from to (k, sp, is) = (let a = after_le from in let d = short_b b (after from) to sp in omega arith)
+  struct_member_short (method s m f) from to sp = method_short s m f from to sp
+  struct_member_short (cases s items) from to sp = absurd sp
+
+  pub struct_member_word : (m : Member) (from to : Toks) → SpellsStructMember m from to → (w : Word) × (kind_at from ≡ Some (kind.Word w))
+  struct_member_word (field f) from to sp = (keyword_word f.keyword, keyword_kind from f.keyword sp.0)
+  struct_member_word (initializer s ps b) from to sp = (word.Init, sp.1)
+  struct_member_word (deinitializer s b) from to sp = (word.Deinit, sp.0)
+  struct_member_word (method s m f) from to sp = method_word s m f from to sp
+  struct_member_word (cases s items) from to sp = absurd sp
