@@ -333,3 +333,144 @@ module _ (most : ℕ) where
   struct_member_word (deinitializer s b) from to sp = (word.Deinit, sp.0)
   struct_member_word (method s m f) from to sp = method_word s m f from to sp
   struct_member_word (cases s items) from to sp = absurd sp
+
+-- ---- cases of an enum
+
+abbrev Free : Toks → Type 0
+Free ts = Unit {0}
+
+abbrev Unopened : Toks → Type 0
+Unopened ts = is_mark mark.OpenParen ts ≡ false
+
+name_is : (n : Name) (from to : Toks) → SpellsName n from to → Free to → name_with from ≡ Ok (n, to)
+unfolding name_with
+name_is n from to (nm, is) f = rw (nm, is) refl
+
+name_sound : (ts : Toks) (x : Name × Toks) → name_with ts ≡ Ok x → SpellsName x.0 ts x.1
+unfolding name_with
+name_sound ts x e = let n = some_kept (name_at ts) (λ n. done (n, after ts)) (Syntax (length ts)) x e in rw (← ok_is (n.0, after ts) x n.2) (n.1, refl)
+
+name_le : (n : Name) (from to : Toks) → SpellsName n from to → length to ≤ length from
+name_le n from to (nm, is) = rw is (after_le from)
+
+name_starts : (n : Name) (from to : Toks) → SpellsName n from to → is_mark mark.CloseParen from ≡ false
+name_starts n from to (nm, is) = name_no_mark mark.CloseParen from n nm
+
+name_shallow : (ts : Toks) (n : ℕ) → name_with ts ≡ Err (Depth n) → ⊥
+unfolding name_with
+name_shallow ts n e = let q = some_syn (name_at ts) (λ n. done (n, after ts)) (length ts) n e in no_ok _ n q.2
+
+abbrev item_made : Toks → Toks → Name → List Name → CaseItem
+item_made ts end n ns = record { span = till (here ts) (here end); name = n; payloads = ns }
+
+item_by : (n : Name) (ns : List Name) (from to : Toks) (end : Span) → name_at from ≡ Some n → Payloads ns from to end → Unopened to → item_with from ≡ Ok (record { span = till (here from) end; name = n; payloads = ns }, to)
+unfolding item_with wanted
+item_by n [] from to end nm (is, is_end) paren = let p = rw is at paren in rw (nm, p, is, is_end) refl
+item_by n (m ∷ ms) from to end nm (last, sp, is, is_end) paren =
+    rw (nm, at_mark mark.OpenParen (after from) _ sp.0, listed_complete SpellsName name_with Free name_is name_sound name_le (λ ts k. tt) name_starts name_shallow m ms [] (after (after from)) last sp.2 tt (at_mark mark.Comma last _ sp.1),
+      at_mark mark.CloseParen last _ sp.1, is, is_end) refl
+
+item_same : (i : CaseItem) (s : Span) → i.span ≡ s → record { span = s; name = i.name; payloads = i.payloads } ≡ i
+item_same i s e = rw (← e) refl
+
+item_is : (i : CaseItem) (from to : Toks) → SpellsItem i from to → Unopened to → item_with from ≡ Ok (i, to)
+item_is i from to (nm, end, pay, s) paren = item_by i.name i.payloads from to end nm pay paren ∙ ap (λ (j : CaseItem). Ok (j, to)) (item_same i _ s)
+
+item_sound : (ts : Toks) (x : CaseItem × Toks) → item_with ts ≡ Ok x → SpellsItem x.0 ts x.1
+unfolding item_with
+item_sound ts x e =
+    let us = after (after ts) in
+    let n = some_kept (name_at ts) (λ n. cond (is_mark mark.OpenParen (after ts)) (listed_on name_with [] us >>= λ ns. wanted (is_mark mark.CloseParen ns.1) ns.1 (done (item_made ts ns.1 n ns.0, after ns.1))) (done (item_made ts ts n [], after ts))) (Syntax (length ts)) x e in
+    elim (chosen (is_mark mark.OpenParen (after ts)) (listed_on name_with [] us >>= λ ns. wanted (is_mark mark.CloseParen ns.1) ns.1 (done (item_made ts ns.1 n.0 ns.0, after ns.1))) (done (item_made ts ts n.0 [], after ts)) _ n.2) [
+      inl y ↦ (
+        let c = bind_ok (listed_on name_with [] us) (λ ns. wanted (is_mark mark.CloseParen ns.1) ns.1 (done (item_made ts ns.1 n.0 ns.0, after ns.1))) x y.1 in
+        let s = listed_sound SpellsName name_with Free name_is name_sound name_le (λ ts k. tt) name_starts name_shallow [] us c.0 c.1 in
+        let q = wanted_ok (is_mark mark.CloseParen c.0.1) c.0.1 (done (item_made ts c.0.1 n.0 c.0.0, after c.0.1)) x c.2 in
+        rw (← ok_is (item_made ts c.0.1 n.0 c.0.0, after c.0.1) x q.1, s.2) (n.1, here c.0.1, (c.0.1, (mark_kind mark.OpenParen (after ts) y.0, mark_kind mark.CloseParen c.0.1 q.0, s.3), refl, refl), refl))
+    | inr y ↦ rw (← ok_is (item_made ts ts n.0 [], after ts) x y.1) (n.1, here ts, (refl, refl), refl) ]
+
+item_shallow : (ts : Toks) (n : ℕ) → item_with ts ≡ Err (Depth n) → ⊥
+unfolding item_with
+item_shallow ts n e =
+    let us = after (after ts) in
+    let m = some_syn (name_at ts) (λ n. cond (is_mark mark.OpenParen (after ts)) (listed_on name_with [] us >>= λ ns. wanted (is_mark mark.CloseParen ns.1) ns.1 (done (item_made ts ns.1 n ns.0, after ns.1))) (done (item_made ts ts n [], after ts))) (length ts) n e in
+    elim (chosen (is_mark mark.OpenParen (after ts)) (listed_on name_with [] us >>= λ ns. wanted (is_mark mark.CloseParen ns.1) ns.1 (done (item_made ts ns.1 m.0 ns.0, after ns.1))) (done (item_made ts ts m.0 [], after ts)) _ m.2) [
+      inl y ↦ elim (bind_err (listed_on name_with [] us) (λ ns. wanted (is_mark mark.CloseParen ns.1) ns.1 (done (item_made ts ns.1 m.0 ns.0, after ns.1))) _ y.1) [
+        inl z ↦ listed_shallow SpellsName name_with Free name_is name_sound name_le (λ ts k. tt) name_starts name_shallow [] us n z
+      | inr z ↦ (let q = wanted_deep (is_mark mark.CloseParen z.0.1) z.0.1 (done (item_made ts z.0.1 m.0 z.0.0, after z.0.1)) n z.2 in no_ok _ n q.1) ]
+    | inr y ↦ no_ok _ n y.1 ]
+
+payloads_le : (ns : List Name) (from to : Toks) (end : Span) → Payloads ns from to end → length to ≤ length from
+payloads_le [] from to end (is, is_end) = rw is (after_le from)
+payloads_le (m ∷ ms) from to end (last, sp, is, is_end) =
+    rw is (let a = after_le from in let b = after_le (after from) in let c = listed_le SpellsName name_with Free name_is name_sound name_le (λ ts k. tt) name_starts name_shallow m ms (after (after from)) last sp.2 in let d = after_le last in omega arith)
+
+item_le : (i : CaseItem) (from to : Toks) → SpellsItem i from to → length to ≤ length from
+item_le i from to (nm, end, pay, s) = payloads_le i.payloads from to end pay
+
+item_starts : (i : CaseItem) (from to : Toks) → SpellsItem i from to → is_mark mark.CloseParen from ≡ false
+item_starts i from to (nm, end, pay, s) = name_no_mark mark.CloseParen from i.name nm
+
+comma_unopened : (ts : Toks) → kind_at ts ≡ Some (kind.Mark mark.Comma) → Unopened ts
+comma_unopened ts k = at_mark mark.OpenParen ts _ k
+
+-- what stands after a member: no `(` and no comma
+abbrev pub Follows : Toks → Type 0
+Follows ts = (is_mark mark.OpenParen ts ≡ false) × (is_mark mark.Comma ts ≡ false)
+
+module _ (most : ℕ) where
+
+  cases_is : (items : List CaseItem) (from to : Toks) → Listed SpellsItem items (after from) to → Follows to → cases_with from ≡ Ok (cases (till (here from) (items_end (here from) items)) items, to)
+  unfolding cases_with
+  cases_is [] from to sp f = absurd sp
+  cases_is (i ∷ items) from to sp f = rw (listed_complete SpellsItem item_with Unopened item_is item_sound item_le comma_unopened item_starts item_shallow i items [] (after from) to sp f.0 f.1) refl
+
+  cases_sound : (ts : Toks) (x : Member × Toks) → is_word word.Case ts ≡ true → cases_with ts ≡ Ok x → MemberRead most SpellsEnumMember x.0 ts x.1
+  unfolding cases_with
+  cases_sound ts x kw e =
+      let c = bind_ok (listed_on item_with [] (after ts)) (λ items. done (cases (till (here ts) (items_end (here ts) items.0)) items.0, items.1)) x e in
+      let s = listed_sound SpellsItem item_with Unopened item_is item_sound item_le comma_unopened item_starts item_shallow [] (after ts) c.0 c.1 in
+      rw (← ok_is (cases (till (here ts) (items_end (here ts) c.0.0)) c.0.0, c.0.1) x c.2, s.2) ((word_kind word.Case ts kw, s.3, refl), omega arith)
+
+  cases_shallow : (ts : Toks) (n : ℕ) → cases_with ts ≡ Err (Depth n) → ⊥
+  unfolding cases_with
+  cases_shallow ts n e = listed_shallow SpellsItem item_with Unopened item_is item_sound item_le comma_unopened item_starts item_shallow [] (after ts) n (bind_deep (listed_on item_with [] (after ts)) (λ items. (cases (till (here ts) (items_end (here ts) items.0)) items.0, items.1)) n e)
+
+  pub enum_member_told : (m : Member) (from to : Toks) → SpellsEnumMember m from to → Follows to → Told most (nest_member m) (enum_member_with most from) m to
+  unfolding enum_member_with
+  enum_member_told (field f) from to sp fl = absurd sp
+  enum_member_told (initializer s ps b) from to sp fl = absurd sp
+  enum_member_told (deinitializer s b) from to sp fl = let k = sp.0 in rw (at_word word.Case from _ k, at_word word.Deinit from _ k) (deinit_told most s b from to sp)
+  enum_member_told (method s m f) from to sp fl = let c = method_changes s m f from to sp in rw (c.case_, c.deinit) (method_told most s m f from to sp)
+  enum_member_told (cases s items) from to (k, sp, is) fl = told_ok most _ (cases s items) to (rw (at_word word.Case from _ k, is) (cases_is items from to sp fl))
+
+  pub enum_member_sound : (ts : Toks) (x : Member × Toks) → enum_member_with most ts ≡ Ok x → MemberRead most SpellsEnumMember x.0 ts x.1
+  unfolding enum_member_with
+  enum_member_sound ts x e = elim (chosen (is_word word.Case ts) (cases_with ts) (cond (is_word word.Deinit ts) (deinitializer_with most ts) (method_with most ts)) _ e) [
+      inl y ↦ cases_sound ts x y.0 y.1
+    | inr y ↦ elim (chosen (is_word word.Deinit ts) (deinitializer_with most ts) (method_with most ts) _ y.1) [
+        inl u ↦ (let d = deinit_sound most ts x u.0 u.1 in (d.1, d.2))
+      | inr u ↦ (let m = method_sound most ts x u.1 in (m.1, m.2)) ] ]
+
+  pub enum_member_deep : (ts : Toks) (n : ℕ) → enum_member_with most ts ≡ Err (Depth n) → DeepM most PartEnumMember ts n
+  unfolding enum_member_with
+  enum_member_deep ts n e = elim (chosen (is_word word.Case ts) (cases_with ts) (cond (is_word word.Deinit ts) (deinitializer_with most ts) (method_with most ts)) _ e) [
+      inl y ↦ absurd (cases_shallow ts n y.1)
+    | inr y ↦ elim (chosen (is_word word.Deinit ts) (deinitializer_with most ts) (method_with most ts) _ y.1) [
+        inl u ↦ (deinit_deep most ts n u.0 u.1).1
+      | inr u ↦ (method_deep most ts n u.1).1 ] ]
+
+  pub enum_member_short : (m : Member) (from to : Toks) → SpellsEnumMember m from to → length to < length from
+  enum_member_short (field f) from to sp = absurd sp
+  enum_member_short (initializer s ps b) from to sp = absurd sp
+  enum_member_short (deinitializer s b) from to (k, sp, is) = (let a = after_le from in let d = short_b b (after from) to sp in omega arith)
+  enum_member_short (method s m f) from to sp = method_short most s m f from to sp
+  enum_member_short (cases s []) from to (k, sp, is) = absurd sp
+  enum_member_short (cases s (i ∷ items)) from to (k, sp, is) = (let a = after_short from _ k in let b = listed_le SpellsItem item_with Unopened item_is item_sound item_le comma_unopened item_starts item_shallow i items (after from) to sp in omega arith)
+
+  pub enum_member_word : (m : Member) (from to : Toks) → SpellsEnumMember m from to → (w : Word) × (kind_at from ≡ Some (kind.Word w))
+  enum_member_word (field f) from to sp = absurd sp
+  enum_member_word (initializer s ps b) from to sp = absurd sp
+  enum_member_word (deinitializer s b) from to sp = (word.Deinit, sp.0)
+  enum_member_word (method s m f) from to sp = method_word s m f from to sp
+  enum_member_word (cases s items) from to sp = (word.Case, sp.0)
