@@ -15,3 +15,4 @@ pub mod Laws
 pub mod ListLaws
 pub mod Parameters
 pub mod Members
+pub mod FileLaws

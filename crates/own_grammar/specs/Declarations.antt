@@ -170,13 +170,13 @@ abbrev pub Noncopyable : Bool → Toks → Toks → Type 0
 Noncopyable false from to = to ≡ from
 Noncopyable true from to = (kind_at from ≡ Some (kind.Mark mark.Colon)) × (kind_at (after from) ≡ Some (kind.Mark mark.Tilde)) × (is_named (codes "Copyable") (after (after from)) ≡ true) × (to ≡ after (after (after from)))
 
--- a struct or an enum, after its word
-abbrev pub SpellsMembers : (Member → Toks → Toks → Type 0) → Span → Name → Bool → List Member → Toks → Toks → Type 0
-SpellsMembers S s n b ms from to = (brace : Toks) × (last : Toks) × (name_at (after from) ≡ Some n) × Noncopyable b (after (after from)) brace × (kind_at brace ≡ Some (kind.Mark mark.OpenBrace)) × Separated S ms (after brace) last × (kind_at last ≡ Some (kind.Mark mark.CloseBrace)) × (to ≡ after last) × (s ≡ till (here from) (here last))
+-- a struct or an enum
+abbrev pub SpellsMembers : Word → (Member → Toks → Toks → Type 0) → Span → Name → Bool → List Member → Toks → Toks → Type 0
+SpellsMembers w S s n b ms from to = (brace : Toks) × (last : Toks) × (kind_at from ≡ Some (kind.Word w)) × (name_at (after from) ≡ Some n) × Noncopyable b (after (after from)) brace × (kind_at brace ≡ Some (kind.Mark mark.OpenBrace)) × Separated S ms (after brace) last × (kind_at last ≡ Some (kind.Mark mark.CloseBrace)) × (to ≡ after last) × (s ≡ till (here from) (here last))
 
 abbrev pub SpellsDeclaration : Decl → Toks → Toks → Type 0
-SpellsDeclaration (struct_of s n b ms) from to = (kind_at from ≡ Some (kind.Word word.Struct)) × SpellsMembers SpellsStructMember s n b ms from to
-SpellsDeclaration (enum_of s n b ms) from to = (kind_at from ≡ Some (kind.Word word.Enum)) × SpellsMembers SpellsEnumMember s n b ms from to
+SpellsDeclaration (struct_of s n b ms) from to = SpellsMembers word.Struct SpellsStructMember s n b ms from to
+SpellsDeclaration (enum_of s n b ms) from to = SpellsMembers word.Enum SpellsEnumMember s n b ms from to
 SpellsDeclaration (function f) from to = SpellsFunction f from to
 
 -- the last `main()`, with or without a `;`

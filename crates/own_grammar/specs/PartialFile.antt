@@ -2,6 +2,7 @@
 use Rattle.std.specs.Prelude.{◌≡◌, ℕ, List, Bool, true, false, Option, Some}
 use Rattle.own_tree.specs.declared.token.Kind.TheVariants as kind
 use Rattle.own_tree.specs.declared.token.Mark.TheVariants as mark
+use Rattle.own_tree.specs.declared.token.Word.{Word}
 use Rattle.own_tree.specs.declared.token.Word.TheVariants as word
 use Rattle.own_tree.specs.declared.tree.Name.{Name}
 use Rattle.own_tree.specs.declared.tree.Parameter.{Parameter}
@@ -64,12 +65,12 @@ PartEnumMember (p_initializer ps b) from at = ⊥
 PartEnumMember (p_deinitializer b) from at = (kind_at from ≡ Some (kind.Word word.Deinit)) × PartB b (after from) at
 PartEnumMember (p_method m f) from at = (mid : Toks) × Changing m from mid × PartFunction f mid at
 
-abbrev pub PartMembers : (Member → Toks → Toks → Type 0) → (PMember → Toks → Toks → Type 0) → Name → Bool → List Member → PMember → Toks → Toks → Type 0
-PartMembers S P n b ms m from at = (brace : Toks) × (mid : Toks) × (name_at (after from) ≡ Some n) × Noncopyable b (after (after from)) brace × (kind_at brace ≡ Some (kind.Mark mark.OpenBrace)) × Separated S ms (after brace) mid × P m mid at
+abbrev pub PartMembers : Word → (Member → Toks → Toks → Type 0) → (PMember → Toks → Toks → Type 0) → Name → Bool → List Member → PMember → Toks → Toks → Type 0
+PartMembers w S P n b ms m from at = (brace : Toks) × (mid : Toks) × (kind_at from ≡ Some (kind.Word w)) × (name_at (after from) ≡ Some n) × Noncopyable b (after (after from)) brace × (kind_at brace ≡ Some (kind.Mark mark.OpenBrace)) × Separated S ms (after brace) mid × P m mid at
 
 abbrev pub PartDeclaration : PDecl → Toks → Toks → Type 0
-PartDeclaration (p_struct n b ms m) from at = (kind_at from ≡ Some (kind.Word word.Struct)) × PartMembers SpellsStructMember PartStructMember n b ms m from at
-PartDeclaration (p_enum n b ms m) from at = (kind_at from ≡ Some (kind.Word word.Enum)) × PartMembers SpellsEnumMember PartEnumMember n b ms m from at
+PartDeclaration (p_struct n b ms m) from at = PartMembers word.Struct SpellsStructMember PartStructMember n b ms m from at
+PartDeclaration (p_enum n b ms m) from at = PartMembers word.Enum SpellsEnumMember PartEnumMember n b ms m from at
 PartDeclaration (p_function f) from at = PartFunction f from at
 
 abbrev pub Part : PFile → Toks → Toks → Type 0
