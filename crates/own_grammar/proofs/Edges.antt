@@ -1,5 +1,5 @@
 -- How an expression begins, and where an expression and a statement end.
-use Rattle.std.proofs.Common.{◌≡◌, ℕ, zero, suc, ◌+◌, ◌≤◌, ◌<◌, Bool, cond, true, false, not, ◌&&◌, ◌||◌, List, [], ◌∷◌, Option, Some, None, Result, Ok, Err, ◌⊎◌, inl, inr, refl, sym, ap, ◌∙◌, arith}
+use Rattle.std.proofs.Common.{◌≡◌, ℕ, ◌≤◌, ◌<◌, Bool, cond, true, false, not, ◌&&◌, ◌||◌, Option, Some, None, Ok, Err, ◌⊎◌, inl, inr, refl, sym, ap, ◌∙◌, arith}
 use Rattle.own_tree.specs.declared.token.Mark.{Mark}
 use Rattle.own_tree.specs.declared.token.Mark.TheVariants as mark
 use Rattle.own_tree.specs.declared.token.Word.{Word}
@@ -20,13 +20,13 @@ use Rattle.own_tree.specs.declared.tree.AssignOperator.TheVariants as assigning
 use Rattle.own_tree.specs.declared.tree.RangeOperator.{RangeOperator}
 use Rattle.own_tree.specs.declared.tree.RangeOperator.TheVariants as range
 use Rattle.own_grammar.specs.declared.Context.{Context}
-use Rattle.own_grammar.specs.declared.Context.TheVariants.{Plain, Condition, Inside}
-use Rattle.own_grammar.specs.Tests.{Toks, after, kind_at, mark_is, is_mark, word_is, is_word, name_at, number_at, text_at, truth_at, root_at, binder_at, keyword_in, keyword_at, operator_in, operator_at, negative_at, unary_at, range_at, assign_in, assign_at, is_new_line, assigns, annotates, joins, allows, opens, closes, is_none, is_over, goes_on, ends, is_bare, label_at}
+use Rattle.own_grammar.specs.declared.Context.TheVariants.{Plain, Condition}
+use Rattle.own_grammar.specs.Tests.{Toks, after, kind_at, mark_is, is_mark, word_is, is_word, name_at, binder_at, keyword_in, keyword_at, operator_in, operator_at, range_at, assign_in, assign_at, is_new_line, assigns, annotates, opens, closes, is_none, is_over, goes_on, ends, is_bare}
 use Rattle.own_grammar.specs.Nesting.{level}
 use Rattle.own_grammar.specs.Spells.{ends_after, Sep}
-use Rattle.own_grammar.specs.Reading.{ends_clause, Fault, Syntax, Depth, sep_at}
+use Rattle.own_grammar.specs.Reading.{ends_clause, Depth, sep_at}
 use Rattle.own_grammar.proofs.Steps.{done, ok_is, chosen, kept, syn, no_ok}
-use Rattle.own_grammar.proofs.Facts.{and_true, and_false, not_true, or_false, or_true, if_none, number_kind, text_kind, name_kind, truth_word, truth_kind, root_kind_of, root_kind, keyword_word, keyword_kind, name_named, mark_kind, word_kind, at_mark, at_word, operator_mark, operator_kind, no_operator, prefix_mark, negative_kind, unary_kind, range_mark, range_kind, assign_mark, assign_kind}
+use Rattle.own_grammar.proofs.Facts.{and_false, not_true, name_kind, truth_word, root_kind_of, keyword_word, keyword_kind, name_named, mark_kind, word_kind, at_mark, at_word, operator_mark, operator_kind, no_operator, prefix_mark, range_mark, range_kind, assign_mark, assign_kind}
 
 -- ---- how an expression begins
 

@@ -1,6 +1,6 @@
 -- What the tests on tokens say of the next token.
-use Rattle.std.proofs.Common.{◌≡◌, ℕ, zero, suc, ◌+◌, ◌≤◌, ◌<◌, Bool, cond, eqb, true, false, not, ◌&&◌, ◌||◌, List, [], ◌∷◌, Option, Some, None, ◌⊎◌, inl, inr, refl, sym, ap, ◌∙◌, arith, rules}
-use denote.Enum.Bare.{sameb, same_true}
+use Rattle.std.proofs.Common.{◌≡◌, ℕ, Bool, cond, true, false, not, ◌&&◌, ◌||◌, List, Option, Some, None, ◌⊎◌, inl, inr, refl, ap, rules}
+use denote.Enum.Bare.{same_true}
 use Rattle.own_tree.specs.contracts.token.Mark as mark_type
 use Rattle.own_tree.specs.contracts.token.Word as word_type
 use Rattle.own_tree.specs.declared.span.Span.{Span}

@@ -1,26 +1,26 @@
 -- What reading a file says of the trees that spell it.
-use Rattle.std.proofs.Common.{◌≡◌, ℕ, zero, suc, ◌+◌, ◌≤◌, ◌<◌, Bool, cond, max, true, false, List, [], ◌∷◌, ◌++◌, length, Option, Some, None, Result, Ok, Err, ◌⊎◌, inl, inr, refl, sym, ap, subst, ◌∙◌, arith, codes}
+use Rattle.std.proofs.Common.{◌≡◌, ℕ, ◌≤◌, ◌<◌, Bool, cond, max, true, false, List, [], length, Option, Some, None, Result, Ok, Err, ◌⊎◌, inl, inr, refl, sym, ap, subst, arith, codes}
 use Rattle.own_tree.specs.declared.span.Span.{Span}
 use Rattle.own_tree.specs.declared.token.Word.{Word}
 use Rattle.own_tree.specs.declared.token.Word.TheVariants as word
 use Rattle.own_tree.specs.declared.token.Kind.TheVariants as kind
 use Rattle.own_tree.specs.declared.token.Mark.TheVariants as mark
 use Rattle.own_tree.specs.declared.tree.Name.{Name}
-use Rattle.own_tree.specs.Source.{Fun, Member, Decl, struct_of, enum_of, function, File}
+use Rattle.own_tree.specs.Source.{Member, Decl, struct_of, enum_of, function, File}
 use Rattle.own_grammar.specs.declared.Context.TheVariants.{Plain}
 use Rattle.own_grammar.specs.Tests.{Toks, after, here, till, kind_at, is_mark, is_word, name_at, opens, is_none, is_over}
 use Rattle.own_grammar.specs.Nesting.{nest_blk}
-use Rattle.own_grammar.specs.Reading.{Fault, Syntax, Depth, Read, ◌>>=◌, syntax_at, on_some}
+use Rattle.own_grammar.specs.Reading.{Fault, Syntax, Depth, Read, ◌>>=◌}
 use Rattle.own_grammar.specs.Lists.{Separated, greatest, separated_on}
 use Rattle.own_grammar.specs.Declarations.{is_named, SpellsStructMember, SpellsEnumMember, Noncopyable, SpellsMembers, SpellsDeclaration, SpellsMain, Spells, nest_member, nest_declaration, nest_file}
 use Rattle.own_grammar.specs.ReadingFile.{wanted, function_with, struct_member_with, enum_member_with, noncopyable_with, members_with, named_with, declaration_with, end_with, main_with, is_main, read_file}
-use Rattle.own_grammar.specs.PartialFile.{PMember, PDecl, p_struct, p_enum, p_function, PFile, nest_pm, nest_pd, nest_pf, PartStructMember, PartEnumMember, PartDeclaration, Part}
-use Rattle.own_grammar.proofs.Facts.{mark_kind, word_kind, at_mark, at_word, opens_kind}
+use Rattle.own_grammar.specs.PartialFile.{PDecl, p_struct, p_enum, p_function, PFile, nest_pd, nest_pf, PartDeclaration, Part}
+use Rattle.own_grammar.proofs.Facts.{mark_kind, word_kind, at_mark, at_word}
 use Rattle.own_grammar.proofs.Lengths.{after_short, after_le}
 use Rattle.own_grammar.proofs.ListLaws.{Told, separated_complete, separated_sound, separated_deep, separated_le}
 use Rattle.own_grammar.proofs.Parameters.{wanted_is, wanted_ok, wanted_deep}
 use Rattle.own_grammar.proofs.Members.{Follows, told_then, told_same, function_told, function_sound, function_deep, function_short, struct_member_told, struct_member_sound, struct_member_deep, struct_member_short, struct_member_word, enum_member_told, enum_member_sound, enum_member_deep, enum_member_short, enum_member_word}
-use Rattle.own_grammar.proofs.Steps.{done, bind_is, bind_ok, ok_is, chosen, kept, some_or, some_kept, bind_err, bind_deep, syn, some_syn, no_ok, no_syntax}
+use Rattle.own_grammar.proofs.Steps.{done, bind_ok, ok_is, chosen, kept, some_kept, bind_err, bind_deep, syn, some_syn, no_ok}
 
 -- ---- `: ~Copyable`
 

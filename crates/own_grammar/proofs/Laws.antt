@@ -1,10 +1,10 @@
 -- What reading a block says of the trees that spell it.
-use Rattle.std.proofs.Common.{◌≡◌, ℕ, ◌+◌, ◌≤◌, ◌<◌, max, List, Result, Ok, Err, refl, ap, ◌∙◌, arith}
+use Rattle.std.proofs.Common.{◌≡◌, ℕ, ◌+◌, ◌≤◌, ◌<◌, max, Ok, Err, refl, ap, ◌∙◌, arith}
 use Rattle.own_tree.specs.Source.{Blk}
 use Rattle.own_grammar.specs.Tests.{Toks}
 use Rattle.own_grammar.specs.Nesting.{nest_blk}
 use Rattle.own_grammar.specs.Spells.{SpellsB}
-use Rattle.own_grammar.specs.Reading.{Fault, Syntax, Depth, Read, body, read}
+use Rattle.own_grammar.specs.Reading.{Syntax, Depth, Read, body, read}
 use Rattle.own_grammar.proofs.Steps.{Near, same, deep}
 use Rattle.own_grammar.proofs.Complete.{blocks}
 use Rattle.own_grammar.proofs.Sound.{sound}

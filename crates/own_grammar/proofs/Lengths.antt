@@ -1,15 +1,13 @@
 -- What is spelled takes tokens.
-use Rattle.std.proofs.Common.{◌≡◌, ℕ, zero, suc, ◌+◌, ◌≤◌, ◌<◌, Bool, true, false, List, [], ◌∷◌, length, Option, Some, None, ◌⊎◌, inl, inr, refl, sym, ap, ◌∙◌, arith}
+use Rattle.std.proofs.Common.{◌≡◌, ℕ, suc, ◌≤◌, ◌<◌, Bool, true, false, List, [], ◌∷◌, length, Option, Some, None, inl, inr, refl, ap, arith}
 use Rattle.own_tree.specs.declared.token.Kind.{Kind}
-use Rattle.own_tree.specs.declared.token.Word.{Word}
 use Rattle.own_tree.specs.declared.tree.Name.{Name}
 use Rattle.own_tree.specs.declared.tree.Path.{Path}
-use Rattle.own_tree.specs.declared.tree.BinaryOperator.{BinaryOperator}
 use Rattle.own_tree.specs.Source.{LetPat, let_any, let_bind, let_case, let_number, let_truth, LetPats, no_let_pats, let_pat, Pat, any, bind, bind_case, on_case, on_number, on_truth, Pats, no_pats, pat}
 use Rattle.own_tree.specs.declared.span.Span.{Span}
-use Rattle.own_grammar.specs.Tests.{Toks, after, kind_at, name_at, binder_at, is_mark, is_word, names_at, name_then, then_more, names_or, closure_head}
-use Rattle.own_grammar.specs.Spells.{Fields, SpellsPath, Typed, SpellsNumber, SpellsCase, SpellsLetPat, SpellsLetPats, SpellsPat, SpellsPats, Sep, Labels}
-use Rattle.own_grammar.proofs.Facts.{number_kind, name_kind, truth_kind, root_kind, annotates_kind, negative_kind}
+use Rattle.own_grammar.specs.Tests.{Toks, after, kind_at, binder_at, names_at, name_then, names_or, closure_head}
+use Rattle.own_grammar.specs.Spells.{Fields, SpellsPath, Typed, SpellsNumber, SpellsLetPat, SpellsLetPats, SpellsPat, SpellsPats, Sep, Labels}
+use Rattle.own_grammar.proofs.Facts.{number_kind, name_kind, truth_kind, root_kind, negative_kind}
 
 pub after_short : (ts : Toks) (x : Kind) → kind_at ts ≡ Some x → length (after ts) < length ts
 unfolding kind_at

@@ -1,16 +1,16 @@
 -- Lists of parts: what is spelled is read, or too deep, and what is read is spelled.
-use Rattle.std.proofs.Common.{◌≡◌, ℕ, zero, suc, ◌+◌, ◌≤◌, ◌<◌, Bool, cond, max, true, false, List, [], ◌∷◌, ◌++◌, length, Option, Some, None, Result, Ok, Err, ◌⊎◌, inl, inr, refl, sym, ap, ◌∙◌, append_assoc, arith}
+use Rattle.std.proofs.Common.{◌≡◌, ℕ, zero, suc, ◌≤◌, ◌<◌, Bool, cond, true, false, List, [], ◌∷◌, ◌++◌, length, Some, Ok, Err, ◌⊎◌, inl, inr, refl, sym, ap, ◌∙◌, append_assoc, arith}
 use Rattle.std.proofs.lemmas.List.{append-nil}
 use Rattle.own_tree.specs.declared.token.Kind.TheVariants as kind
 use Rattle.own_tree.specs.declared.token.Mark.TheVariants as mark
 use Rattle.own_grammar.specs.Tests.{Toks, after, kind_at, is_mark}
 use Rattle.own_grammar.specs.Spells.{Sep}
-use Rattle.own_grammar.specs.Reading.{Fault, Syntax, Depth, Read, ◌>>=◌, syntax_at, sep_at}
+use Rattle.own_grammar.specs.Reading.{Depth, Read, ◌>>=◌, syntax_at, sep_at}
 use Rattle.own_grammar.specs.Lists.{Listed, Bracketed, Separated, greatest, listed_at, listed_on, bracketed_with, separated_at, separated_on}
 use Rattle.own_grammar.proofs.Facts.{mark_kind, at_mark}
 use Rattle.own_grammar.proofs.Edges.{sep_is, sep_sound, sep_no_depth}
 use Rattle.own_grammar.proofs.Lengths.{after_short, after_le, sep_le}
-use Rattle.own_grammar.proofs.Steps.{done, bind_ok, ok_is, chosen, kept, bind_err, syn, no_ok, no_syntax, Near, same, near_bind, near_cond, equal}
+use Rattle.own_grammar.proofs.Steps.{done, bind_ok, ok_is, chosen, kept, bind_err, syn, no_ok, same, near_bind, near_cond, equal}
 
 -- ---- with commas
 

@@ -1,6 +1,6 @@
 -- The parts of the tree as lists.
-use Rattle.std.proofs.Common.{◌≡◌, List, [], ◌∷◌, refl, ap, ap₂}
-use Rattle.own_tree.specs.Source.{LetPat, LetPats, no_let_pats, let_pat, Pat, Pats, no_pats, pat, Given, Args, no_args, arg, Stm, Stms, no_stms, stm, When, Clauses, no_clauses, clause}
+use Rattle.std.proofs.Common.{◌≡◌, List, [], ◌∷◌, refl, ap}
+use Rattle.own_tree.specs.Source.{LetPat, LetPats, no_let_pats, let_pat, Pat, Pats, no_pats, pat, Args, no_args, arg, Stm, Stms, no_stms, stm, Clauses, no_clauses, clause}
 use Rattle.own_tree.specs.View.{Arg, Cla, let_pats_of, pats_of, args_of, stms_of, clauses_of}
 
 unfoldable pub let_pats_in : LetPats → List LetPat

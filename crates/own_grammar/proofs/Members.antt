@@ -1,5 +1,5 @@
 -- Members: what is spelled is read, or too deep, and what is read is spelled.
-use Rattle.std.proofs.Common.{◌≡◌, ℕ, zero, suc, ◌+◌, ◌≤◌, ◌<◌, Bool, cond, max, true, false, List, [], ◌∷◌, ◌++◌, length, Option, Some, None, Result, Ok, Err, ◌⊎◌, inl, inr, refl, sym, ap, ◌∙◌, arith}
+use Rattle.std.proofs.Common.{◌≡◌, ℕ, ◌≤◌, ◌<◌, cond, true, false, List, [], ◌∷◌, length, Option, Some, None, Ok, Err, inl, inr, refl, ap, ◌∙◌, arith}
 use Rattle.own_tree.specs.declared.span.Span.{Span}
 use Rattle.own_tree.specs.declared.token.Word.{Word}
 use Rattle.own_tree.specs.declared.token.Word.TheVariants as word
@@ -14,24 +14,24 @@ use Rattle.own_tree.specs.declared.tree.Parameter.{Parameter}
 use Rattle.own_tree.specs.declared.tree.MethodMode.{MethodMode}
 use Rattle.own_tree.specs.declared.tree.ResultType.{ResultType}
 use Rattle.own_tree.specs.Source.{Blk, block, Fun, Member, field, initializer, deinitializer, method, cases}
-use Rattle.own_grammar.specs.Tests.{Toks, after, here, till, kind_at, is_mark, is_word, name_at, keyword_in, keyword_at, mark_is, word_is}
+use Rattle.own_grammar.specs.Tests.{Toks, after, here, till, kind_at, is_mark, is_word, name_at, keyword_in, keyword_at, word_is}
 use Rattle.own_grammar.specs.Nesting.{blk_span, nest_blk}
 use Rattle.own_grammar.specs.Spells.{SpellsB}
-use Rattle.own_grammar.specs.Reading.{Fault, Syntax, Depth, Read, ◌>>=◌, syntax_at, on_some, body, read}
+use Rattle.own_grammar.specs.Reading.{Syntax, Depth, Read, ◌>>=◌, syntax_at, on_some, body, read}
 use Rattle.own_grammar.specs.Lists.{Listed, listed_on}
 use Rattle.own_grammar.specs.Declarations.{word_changing, changing_in, changing_at, SpellsParameters, Returns, SpellsFunction, Changing, SpellsField, SpellsName, Payloads, SpellsItem, items_end, SpellsDeinitializer, SpellsMethod, SpellsStructMember, SpellsEnumMember, nest_member}
 use Rattle.own_grammar.specs.ReadingFile.{wanted, returns_with, parameters_with, function_body_with, function_with, method_with, field_with, initializer_with, deinitializer_with, struct_member_with, name_with, item_with, cases_with, enum_member_with}
 use Rattle.own_grammar.specs.Partial.{PBlk}
 use Rattle.own_grammar.specs.PartialFile.{PFun, PMember, p_initializer, p_deinitializer, p_method, nest_pm, PartFunction, PartStructMember, PartEnumMember}
-use Rattle.own_grammar.proofs.Facts.{mark_kind, word_kind, at_mark, at_word, name_kind, name_span, keyword_kind, keyword_word}
+use Rattle.own_grammar.proofs.Facts.{mark_kind, word_kind, at_mark, at_word, keyword_kind, keyword_word}
 use Rattle.own_grammar.proofs.Edges.{at_keyword}
 use Rattle.own_grammar.proofs.Lengths.{after_short, after_le}
 use Rattle.own_grammar.proofs.Shorter.{short_b}
 use Rattle.own_grammar.proofs.ListLaws.{Told, listed_complete, listed_sound, listed_shallow, listed_le}
-use Rattle.own_grammar.proofs.Parameters.{wanted_ok, wanted_deep, not_name, name_no_mark, returns_is, returns_sound, returns_shallow, returns_le, parameters_is, parameters_sound, parameters_shallow, parameters_le}
-use Rattle.own_grammar.proofs.Steps.{done, le_tells, bind_is, bind_ok, ok_is, chosen, kept, some_or, some_kept, bind_err, bind_deep, syn, some_syn, no_ok, no_syntax}
+use Rattle.own_grammar.proofs.Parameters.{wanted_ok, wanted_deep, name_no_mark, returns_is, returns_sound, returns_shallow, returns_le, parameters_is, parameters_sound, parameters_shallow, parameters_le}
+use Rattle.own_grammar.proofs.Steps.{done, le_tells, bind_is, bind_ok, ok_is, chosen, some_or, some_kept, bind_err, bind_deep, some_syn, no_ok}
 use Rattle.own_grammar.proofs.Laws.{block_again, block_found, block_deep}
-use Rattle.own_grammar.proofs.Deep.{DeepB, block_depth}
+use Rattle.own_grammar.proofs.Deep.{block_depth}
 
 -- ---- what is read after a part
 

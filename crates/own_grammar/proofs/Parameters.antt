@@ -1,5 +1,5 @@
 -- Results, types and parameters: what is spelled is read, and what is read is spelled.
-use Rattle.std.proofs.Common.{◌≡◌, ℕ, zero, suc, ◌+◌, ◌≤◌, ◌<◌, Bool, cond, true, false, List, [], ◌∷◌, ◌++◌, length, Option, Some, None, Result, Ok, Err, ◌⊎◌, inl, inr, refl, sym, ap, ◌∙◌, arith}
+use Rattle.std.proofs.Common.{◌≡◌, ℕ, ◌≤◌, Bool, true, false, List, [], ◌∷◌, length, Option, Some, None, Ok, Err, inl, inr, refl, sym, ap, ◌∙◌, arith}
 use Rattle.own_tree.specs.declared.span.Span.{Span}
 use Rattle.own_tree.specs.declared.token.Word.{Word}
 use Rattle.own_tree.specs.declared.token.Mark.{Mark}
@@ -17,14 +17,14 @@ use Rattle.own_tree.specs.declared.tree.PassingMode.{PassingMode}
 use Rattle.own_tree.specs.declared.tree.ResultType.{ResultType}
 use Rattle.own_tree.specs.declared.tree.ResultType.TheVariants as answer
 use Rattle.own_grammar.specs.Tests.{Toks, after, here, till, kind_at, is_mark, name_at, name_in}
-use Rattle.own_grammar.specs.Reading.{Fault, Syntax, Depth, Read, ◌>>=◌, syntax_at, on_some}
-use Rattle.own_grammar.specs.Lists.{Listed, Bracketed, bracketed_with}
+use Rattle.own_grammar.specs.Reading.{Syntax, Depth, Read, ◌>>=◌, syntax_at, on_some}
+use Rattle.own_grammar.specs.Lists.{Bracketed, bracketed_with}
 use Rattle.own_grammar.specs.Declarations.{passing_in, passing_at, Moded, result_span, SpellsResult, Returns, SpellsInner, type_span, SpellsType, Labelled, SpellsParameter, SpellsParameters}
 use Rattle.own_grammar.specs.ReadingFile.{wanted, result_with, returns_with, moded_with, inner_with, arrow_with, type_with, labelled_with, parameter_with, parameters_with}
 use Rattle.own_grammar.proofs.Facts.{mark_kind, at_mark, name_kind, name_span}
-use Rattle.own_grammar.proofs.Lengths.{after_short, after_le}
+use Rattle.own_grammar.proofs.Lengths.{after_le}
 use Rattle.own_grammar.proofs.ListLaws.{bracketed_complete, bracketed_sound, bracketed_shallow, bracketed_le}
-use Rattle.own_grammar.proofs.Steps.{done, bind_ok, ok_is, chosen, kept, some_or, some_kept, bind_err, bind_deep, syn, some_syn, no_ok, no_syntax}
+use Rattle.own_grammar.proofs.Steps.{done, bind_ok, ok_is, chosen, kept, some_or, some_kept, bind_err, bind_deep, syn, some_syn, no_ok}
 
 -- ---- tests
 

@@ -1,8 +1,6 @@
 -- Paths and written types: what is spelled is read, and what is read is spelled.
-use Rattle.std.proofs.Common.{◌≡◌, ℕ, zero, suc, ◌+◌, ◌≤◌, ◌<◌, Bool, cond, true, false, List, [], ◌∷◌, ◌++◌, length, Option, Some, None, Result, Ok, Err, ◌⊎◌, inl, inr, refl, sym, ap, ◌∙◌, append_assoc, arith}
+use Rattle.std.proofs.Common.{◌≡◌, ℕ, cond, true, false, List, [], ◌∷◌, ◌++◌, length, Option, Some, None, Ok, Err, inl, inr, refl, sym, ap, ◌∙◌, append_assoc}
 use Rattle.std.proofs.lemmas.List.{append-nil}
-use Rattle.own_tree.specs.declared.token.Kind.{Kind}
-use Rattle.own_tree.specs.declared.token.Kind.TheVariants as kind
 use Rattle.own_tree.specs.declared.token.Mark.TheVariants as mark
 use Rattle.own_tree.specs.declared.tree.Name.{Name}
 use Rattle.own_tree.specs.declared.tree.Path.{Path}
@@ -10,9 +8,9 @@ use Rattle.own_tree.specs.declared.tree.Root.{Root}
 use Rattle.own_grammar.specs.Tests.{Toks, after, here, till, kind_at, is_mark, name_at, root_at, annotates}
 use Rattle.own_grammar.specs.Nesting.{names_end}
 use Rattle.own_grammar.specs.Spells.{Fields, SpellsPath, Typed}
-use Rattle.own_grammar.specs.Reading.{Fault, Syntax, Depth, Read, ◌>>=◌, syntax_at, on_some, fields_on, path_from, path_with, typed_with}
+use Rattle.own_grammar.specs.Reading.{Syntax, Depth, syntax_at, on_some, fields_on, path_from, path_with, typed_with}
 use Rattle.own_grammar.proofs.Facts.{mark_kind, at_mark}
-use Rattle.own_grammar.proofs.Steps.{done, bind_ok, ok_is, chosen, some_or, some_kept, bind_deep, syn, some_syn, no_ok, no_syntax}
+use Rattle.own_grammar.proofs.Steps.{done, bind_ok, ok_is, chosen, some_kept, bind_deep, some_syn}
 
 -- ---- fields
 

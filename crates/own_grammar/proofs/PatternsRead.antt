@@ -1,7 +1,5 @@
 -- Patterns: what is read is spelled, and is read whatever the fuel.
-use Rattle.std.proofs.Common.{◌≡◌, ℕ, zero, suc, ◌+◌, ◌≤◌, ◌<◌, Bool, cond, true, false, List, [], ◌∷◌, ◌++◌, length, Option, Some, None, Result, Ok, Err, ◌⊎◌, inl, inr, refl, sym, ap, ◌∙◌, append_assoc, arith}
-use Rattle.own_tree.specs.declared.span.Span.{Span}
-use Rattle.own_tree.specs.declared.token.Kind.{Kind}
+use Rattle.std.proofs.Common.{◌≡◌, ℕ, zero, suc, ◌≤◌, ◌<◌, cond, true, false, List, [], ◌∷◌, ◌++◌, length, Option, Some, None, Ok, Err, inl, inr, refl, ap, ◌∙◌, append_assoc, arith}
 use Rattle.own_tree.specs.declared.token.Kind.TheVariants as kind
 use Rattle.own_tree.specs.declared.token.Mark.TheVariants as mark
 use Rattle.own_tree.specs.declared.token.Word.TheVariants as word
@@ -10,12 +8,12 @@ use Rattle.own_tree.specs.Source.{LetPat, let_any, let_bind, let_case, let_numbe
 use Rattle.own_tree.specs.View.{let_pats_of, pats_of}
 use Rattle.own_grammar.specs.Tests.{Toks, after, here, till, kind_at, is_mark, is_word, name_at, number_at, truth_at, negative_at}
 use Rattle.own_grammar.specs.Nesting.{let_pat_span, is_let_case}
-use Rattle.own_grammar.specs.Spells.{SpellsNumber, SpellsCase, SpellsLetPat, SpellsLetPats, SpellsPat, SpellsPats}
-use Rattle.own_grammar.specs.Reading.{Fault, Syntax, Depth, Read, ◌>>=◌, syntax_at, on_some, PatternGoal, let_pattern, let_patterns_on, pattern, patterns_on, PatternOut, PatternReader, let_parts_with, let_case_with, let_literal_with, let_pattern_with, let_patterns_with, parts_with, case_with, bind_with, literal_pattern_with, pattern_with, patterns_with, pattern_step, read_pattern_at, read_pattern}
-use Rattle.own_grammar.proofs.Facts.{number_kind, name_kind, truth_word, truth_kind, mark_kind, word_kind, at_mark, at_word, negative_kind}
+use Rattle.own_grammar.specs.Spells.{SpellsCase, SpellsLetPat, SpellsLetPats, SpellsPat, SpellsPats}
+use Rattle.own_grammar.specs.Reading.{Syntax, Depth, ◌>>=◌, syntax_at, PatternGoal, let_pattern, let_patterns_on, pattern, patterns_on, PatternOut, PatternReader, let_parts_with, let_case_with, let_literal_with, let_pattern_with, let_patterns_with, parts_with, case_with, bind_with, literal_pattern_with, pattern_with, patterns_with, pattern_step, read_pattern_at, read_pattern}
+use Rattle.own_grammar.proofs.Facts.{number_kind, name_kind, truth_word, truth_kind, mark_kind, word_kind, negative_kind}
 use Rattle.own_grammar.proofs.Lists.{let_pats_in, let_pats_list, pats_in, pats_list}
 use Rattle.own_grammar.proofs.Lengths.{after_short, after_le, let_pat_short, pat_short}
-use Rattle.own_grammar.proofs.Steps.{done, bind_ok, ok_is, chosen, kept, some_or, some_kept, bind_err, bind_deep, syn, some_syn, no_ok, no_syntax, Near, same, near_bind, near_cond, near_some, equal}
+use Rattle.own_grammar.proofs.Steps.{done, bind_ok, ok_is, chosen, kept, some_or, some_kept, bind_err, bind_deep, syn, some_syn, no_ok, Near, same, near_bind, near_cond, near_some, equal}
 
 use Rattle.own_grammar.proofs.Patterns.{all_are}
 

@@ -1,8 +1,7 @@
 -- Where the answer of a step comes from.
-use Rattle.std.proofs.Common.{◌≡◌, ℕ, zero, suc, ◌+◌, ◌≤◌, ◌<◌, Bool, cond, ltb, true, false, List, [], ◌∷◌, length, Option, Some, None, Result, Ok, Err, ◌⊎◌, inl, inr, refl, sym, ap, ◌∙◌, arith}
+use Rattle.std.proofs.Common.{◌≡◌, ℕ, suc, ◌≤◌, ◌<◌, Bool, cond, ltb, true, false, Option, Some, None, Result, Ok, Err, ◌⊎◌, inl, inr, refl, ap, arith}
 use Rattle.std.proofs.lemmas.Bool.{lt-ltb, le-ltb}
 use Rattle.std.proofs.lemmas.Bool.Decides.{leb_tells}
-use Rattle.own_grammar.specs.Tests.{Toks}
 use Rattle.own_grammar.specs.Reading.{Fault, Syntax, Depth, ◌>>=◌, on_some}
 
 abbrev pub done : {A : Type 0} → A → Result A Fault

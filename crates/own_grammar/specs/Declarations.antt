@@ -1,5 +1,5 @@
 -- *Spells* of declarations and of the file.
-use Rattle.std.specs.Prelude.{◌≡◌, ℕ, suc, zero, max, Bool, true, false, List, [], ◌∷◌, length, Option, Some, None, ◌⊎◌, codes, bytes_eq}
+use Rattle.std.specs.Prelude.{◌≡◌, ℕ, Bool, true, false, List, [], ◌∷◌, length, Option, Some, None, ◌⊎◌, codes, bytes_eq}
 use Rattle.own_tree.specs.declared.span.Span.{Span}
 use Rattle.own_tree.specs.declared.token.Mark.TheVariants as mark
 use Rattle.own_tree.specs.declared.token.Word.{Word}

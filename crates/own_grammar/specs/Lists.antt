@@ -1,10 +1,10 @@
 -- Lists of parts, as the declarations have them: with commas, in parentheses, and each with its SEP.
-use Rattle.std.specs.Prelude.{◌≡◌, ℕ, suc, zero, max, Bool, true, false, List, [], ◌∷◌, ◌++◌, length, Option, Some, None, Result, Ok, Err, if◌then◌else◌}
-use Rattle.own_tree.specs.declared.token.Kind.TheVariants.{Mark, Word}
+use Rattle.std.specs.Prelude.{◌≡◌, ℕ, suc, zero, max, Bool, true, List, [], ◌∷◌, ◌++◌, length, Some, Ok, Err, if◌then◌else◌}
+use Rattle.own_tree.specs.declared.token.Kind.TheVariants.{Mark}
 use Rattle.own_tree.specs.declared.token.Mark.TheVariants as mark
 use Rattle.own_grammar.specs.Tests.{Toks, after, kind_at, is_mark}
 use Rattle.own_grammar.specs.Spells.{Sep}
-use Rattle.own_grammar.specs.Reading.{Fault, Syntax, Depth, Read, ◌>>=◌, syntax_at, sep_at}
+use Rattle.own_grammar.specs.Reading.{Syntax, Read, ◌>>=◌, syntax_at, sep_at}
 
 -- a part, then a comma and a part, and so on
 abbrev pub Listed : {A : Type 0} → (A → Toks → Toks → Type 0) → List A → Toks → Toks → Type 0

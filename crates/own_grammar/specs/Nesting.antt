@@ -1,16 +1,12 @@
 -- Of a tree: spans, levels of operators, what a part may be, and nesting.
-use Rattle.std.specs.Prelude.{ℕ, suc, zero, ◌+◌, max, Bool, true, false, ◌&&◌, ◌||◌, List, [], ◌∷◌, Option, Some, None, not, nat_eq}
+use Rattle.std.specs.Prelude.{ℕ, suc, max, Bool, true, false, List, [], ◌∷◌, Option, Some, None, not, nat_eq}
 use Rattle.own_tree.specs.declared.span.Span.{Span}
-use Rattle.own_tree.specs.declared.token.Mark.TheVariants as mark
 use Rattle.own_tree.specs.declared.tree.Name.{Name}
-use Rattle.own_tree.specs.declared.tree.Path.{Path}
 use Rattle.own_tree.specs.declared.tree.Root.{Root}
 use Rattle.own_tree.specs.declared.tree.Root.TheVariants.{Named, SelfWord}
 use Rattle.own_tree.specs.declared.tree.BinaryOperator.{BinaryOperator}
 use Rattle.own_tree.specs.declared.tree.BinaryOperator.TheVariants as operator
 use Rattle.own_tree.specs.Source.{LetPat, let_any, let_bind, let_case, let_number, let_truth, Pat, any, bind, bind_case, on_case, on_number, on_truth, Exp, number, text, truth, path, implicit_member, parenthesized, consumed, prefix, binary, choice, member, call, call_closing, call_closure, Given, value, address, closing, Args, no_args, arg, Clo, closure, Stm, let_in, declare, assign, ignore, discard_self, if_then, if_else, else_if, loop_while, loop_repeat, loop_for, switch, leave, go_on, return_none, return_value, evaluate, Stms, no_stms, stm, When, case_of, case_where, default, Clauses, no_clauses, clause, Blk, block}
-use Rattle.own_grammar.specs.declared.Context.{Context}
-use Rattle.own_grammar.specs.Tests.{Toks, is_mark, closes, operator_at}
 
 -- ---- spans
 

@@ -1,7 +1,7 @@
 -- Trees that may lack parts on their right edge and nowhere else. `at` is where the tokens that they spell end. A tree
 -- breaks off where one of its parts would begin, so each node on the way to the end but the last has read a token of its
 -- own, save an expression statement, which has none.
-use Rattle.std.specs.Prelude.{◌≡◌, ℕ, suc, zero, ◌+◌, ◌<◌, ◌≤◌, max, Bool, true, false, List, [], ◌∷◌, Option, Some, None}
+use Rattle.std.specs.Prelude.{◌≡◌, ℕ, suc, ◌<◌, max, Bool, true, false, List, Option, Some}
 use Rattle.own_tree.specs.declared.token.Kind.TheVariants.{Mark, Word}
 use Rattle.own_tree.specs.declared.token.Mark.TheVariants as mark
 use Rattle.own_tree.specs.declared.token.Word.TheVariants as word
@@ -12,12 +12,12 @@ use Rattle.own_tree.specs.declared.tree.PrefixOperator.{PrefixOperator}
 use Rattle.own_tree.specs.declared.tree.BinaryOperator.{BinaryOperator}
 use Rattle.own_tree.specs.declared.tree.AssignOperator.{AssignOperator}
 use Rattle.own_tree.specs.declared.tree.RangeOperator.{RangeOperator}
-use Rattle.own_tree.specs.Source.{Pat, Exp, Given, Args, Clo, Stm, Stms, When, Clauses, Blk}
+use Rattle.own_tree.specs.Source.{Pat, Exp, Given, Args, Stm, Stms, When, Blk}
 use Rattle.own_grammar.specs.declared.Context.{Context}
 use Rattle.own_grammar.specs.declared.Context.TheVariants.{Plain, Condition, Inside}
 use Rattle.own_grammar.specs.Tests.{Toks, after, kind_at, binder_at, keyword_at, operator_at, unary_at, range_at, assign_at, assigns, opens, closes, is_bare, closure_head}
-use Rattle.own_grammar.specs.Nesting.{level, chains, level_of, is_post, is_path, is_call, is_return, nest, nest_given, nest_args, nest_clo, nest_stm, nest_stms, nest_when, nest_blk}
-use Rattle.own_grammar.specs.Spells.{IsLeft, Sep, Labels, Typed, SpellsPath, SpellsPat, SpellsE, SpellsG, SpellsA, SpellsK, SpellsS, SpellsN, SpellsH, SpellsB}
+use Rattle.own_grammar.specs.Nesting.{level, chains, level_of, is_post, is_path, is_call, is_return, nest, nest_given, nest_args, nest_stm, nest_stms, nest_when, nest_blk}
+use Rattle.own_grammar.specs.Spells.{IsLeft, Sep, Labels, Typed, SpellsPath, SpellsPat, SpellsE, SpellsG, SpellsA, SpellsS, SpellsN, SpellsH, SpellsB}
 
 mutual
   pub data PExp : Type 0 where

@@ -1,5 +1,5 @@
 -- Reading from left to right, with the first fault that is met.
-use Rattle.std.specs.Prelude.{◌≡◌, ℕ, suc, zero, ◌+◌, ◌<◌, ◌≤◌, Bool, true, false, ◌&&◌, List, [], ◌∷◌, ◌++◌, length, Option, Some, None, Result, Ok, Err, nat_lt, nat_eq, if◌then◌else◌}
+use Rattle.std.specs.Prelude.{ℕ, suc, zero, ◌+◌, Bool, true, false, List, [], ◌∷◌, ◌++◌, length, Option, Some, None, Result, Ok, Err, nat_lt, nat_eq, if◌then◌else◌}
 use Rattle.own_tree.specs.declared.token.Mark.TheVariants as mark
 use Rattle.own_tree.specs.declared.token.Word.TheVariants as word
 use Rattle.own_tree.specs.declared.token.Kind.{Kind}
@@ -13,12 +13,12 @@ use Rattle.own_tree.specs.declared.tree.PrefixOperator.{PrefixOperator}
 use Rattle.own_tree.specs.declared.tree.BinaryOperator.{BinaryOperator}
 use Rattle.own_tree.specs.declared.tree.AssignOperator.{AssignOperator}
 use Rattle.own_tree.specs.declared.tree.RangeOperator.{RangeOperator}
-use Rattle.own_tree.specs.Source.{LetPat, let_any, let_bind, let_case, let_number, let_truth, LetPats, no_let_pats, let_pat, Pat, any, bind, bind_case, on_case, on_number, on_truth, Pats, no_pats, pat, Exp, number, text, truth, path, implicit_member, parenthesized, consumed, prefix, binary, choice, member, call, call_closing, call_closure, Given, value, address, closing, Args, no_args, arg, Clo, closure, Stm, let_in, declare, assign, ignore, discard_self, if_then, if_else, else_if, loop_while, loop_repeat, loop_for, switch, leave, go_on, return_none, return_value, evaluate, Stms, no_stms, stm, When, case_of, case_where, default, Clauses, no_clauses, clause, Blk, block}
+use Rattle.own_tree.specs.Source.{LetPat, let_any, let_bind, let_case, let_number, let_truth, no_let_pats, Pat, any, bind, bind_case, on_case, on_number, on_truth, no_pats, pat, Exp, number, text, truth, path, implicit_member, parenthesized, consumed, prefix, binary, choice, member, call, call_closing, call_closure, Given, value, address, closing, Clo, closure, Stm, let_in, declare, assign, ignore, discard_self, if_then, if_else, else_if, loop_while, loop_repeat, loop_for, switch, leave, go_on, return_none, return_value, evaluate, When, case_of, case_where, default, Blk, block}
 use Rattle.own_tree.specs.View.{pats_of, let_pats_of, args_of, stms_of, clauses_of, Arg, Cla}
 use Rattle.own_grammar.specs.declared.Context.{Context}
 use Rattle.own_grammar.specs.declared.Context.TheVariants.{Plain, Condition, Inside}
-use Rattle.own_grammar.specs.Tests.{Toks, after, here, till, kind_at, is_mark, is_word, name_at, number_at, truth_at, root_at, binder_at, keyword_at, operator_at, negative_at, unary_at, range_at, assign_at, assigns, annotates, opens, closes, ends, is_bare, label_at, closure_head, is_none}
-use Rattle.own_grammar.specs.Nesting.{exp_span, clo_span, blk_span, stm_span, let_pat_span, names_end, typed_end, stms_end, level, chains, is_path, is_return, nest}
+use Rattle.own_grammar.specs.Tests.{Toks, after, here, till, kind_at, is_mark, is_word, name_at, number_at, truth_at, root_at, binder_at, keyword_at, operator_at, negative_at, unary_at, range_at, assign_at, assigns, annotates, opens, closes, is_bare, label_at, closure_head}
+use Rattle.own_grammar.specs.Nesting.{exp_span, clo_span, blk_span, stm_span, let_pat_span, names_end, typed_end, stms_end, level, chains, is_return, nest}
 use Rattle.own_grammar.specs.Spells.{ends_after}
 
 -- how many tokens are left at the fault

@@ -1,11 +1,10 @@
 -- Reading declarations and the file.
-use Rattle.std.specs.Prelude.{◌≡◌, ℕ, suc, zero, Bool, true, false, List, [], ◌∷◌, ◌++◌, length, Option, Some, None, Result, Ok, Err, codes, if◌then◌else◌}
+use Rattle.std.specs.Prelude.{ℕ, Bool, true, false, List, [], length, Option, Some, None, Result, Ok, Err, codes, if◌then◌else◌}
 use Rattle.own_tree.specs.declared.span.Span.{Span}
 use Rattle.own_tree.specs.declared.token.Mark.TheVariants as mark
 use Rattle.own_tree.specs.declared.token.Word.TheVariants as word
 use Rattle.own_tree.specs.declared.tree.Name.{Name}
 use Rattle.own_tree.specs.declared.tree.Keyword.{Keyword}
-use Rattle.own_tree.specs.declared.tree.Field.{Field}
 use Rattle.own_tree.specs.declared.tree.CaseItem.{CaseItem}
 use Rattle.own_tree.specs.declared.tree.Parameter.{Parameter}
 use Rattle.own_tree.specs.declared.tree.Label.{Label}
@@ -14,14 +13,13 @@ use Rattle.own_tree.specs.declared.tree.ParameterType.{ParameterType}
 use Rattle.own_tree.specs.declared.tree.ParameterType.TheVariants as written
 use Rattle.own_tree.specs.declared.tree.FunctionParameter.{FunctionParameter}
 use Rattle.own_tree.specs.declared.tree.PassingMode.{PassingMode}
-use Rattle.own_tree.specs.declared.tree.MethodMode.{MethodMode}
 use Rattle.own_tree.specs.declared.tree.ResultType.{ResultType}
 use Rattle.own_tree.specs.declared.tree.ResultType.TheVariants as answer
-use Rattle.own_tree.specs.Source.{Blk, Fun, Member, field, initializer, deinitializer, method, cases, Decl, struct_of, enum_of, function, File}
+use Rattle.own_tree.specs.Source.{Fun, Member, field, initializer, deinitializer, method, cases, Decl, struct_of, enum_of, function, File}
 use Rattle.own_grammar.specs.declared.Context.TheVariants.{Plain}
 use Rattle.own_grammar.specs.Tests.{Toks, after, here, till, is_mark, is_word, name_at, keyword_at, opens, is_over}
 use Rattle.own_grammar.specs.Nesting.{blk_span}
-use Rattle.own_grammar.specs.Reading.{Fault, Syntax, Depth, Read, ◌>>=◌, syntax_at, on_some, body, read}
+use Rattle.own_grammar.specs.Reading.{Fault, Syntax, Read, ◌>>=◌, syntax_at, on_some, body, read}
 use Rattle.own_grammar.specs.Lists.{listed_on, bracketed_with, separated_on}
 use Rattle.own_grammar.specs.Declarations.{passing_at, changing_at, is_named, result_span, type_span, items_end}
 
