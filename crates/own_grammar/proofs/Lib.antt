@@ -16,3 +16,4 @@ pub mod ListLaws
 pub mod Parameters
 pub mod Members
 pub mod FileLaws
+pub mod Examples
