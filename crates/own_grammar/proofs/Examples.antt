@@ -1,5 +1,5 @@
 -- Small texts, and what is read of them.
-use Rattle.std.proofs.Common.{◌≡◌, ℕ, ◌+◌, Bool, true, false, List, [], ◌∷◌, ◌++◌, map, length, Option, Some, None, Ok, Err, refl, codes}
+use Rattle.std.proofs.Common.{◌≡◌, ℕ, ◌+◌, Bool, true, false, List, [], ◌∷◌, ◌++◌, map, length, Option, Some, None, Result, Ok, Err, refl, codes}
 use Rattle.own_tree.specs.declared.token.Mark.TheVariants as mark
 use Rattle.own_tree.specs.declared.token.Word.TheVariants as word
 use Rattle.own_tree.specs.declared.token.Kind.{Kind}
@@ -9,7 +9,10 @@ use Rattle.own_tree.specs.declared.tree.Root.{Root}
 use Rattle.own_tree.specs.declared.tree.Root.TheVariants.{Named, SelfWord}
 use Rattle.own_tree.specs.declared.tree.PrefixOperator.{PrefixOperator}
 use Rattle.own_tree.specs.declared.tree.PrefixOperator.TheVariants as sign
-use Rattle.own_tree.specs.Source.{Exp, number, text, truth, path, implicit_member, parenthesized, consumed, prefix, binary, choice, member, call, call_closing, call_closure, Stm, evaluate, Stms, no_stms, stm, Blk, block}
+use Rattle.own_tree.specs.Source.{File, Exp, number, text, truth, path, implicit_member, parenthesized, consumed, prefix, binary, choice, member, call, call_closing, call_closure, Stm, evaluate, Stms, no_stms, stm, Blk, block}
+use Rattle.own_grammar.specs.Lists.{listed_at, listed_on, bracketed_with, separated_at, separated_on}
+use Rattle.own_grammar.specs.Declarations.{passing_at, changing_at, is_named}
+use Rattle.own_grammar.specs.ReadingFile.{wanted, result_with, returns_with, moded_with, inner_with, arrow_with, type_with, labelled_with, parameter_with, parameters_with, function_body_with, function_with, method_with, field_with, initializer_with, deinitializer_with, struct_member_with, name_with, item_with, cases_with, enum_member_with, noncopyable_with, members_with, named_with, declaration_with, end_with, main_with, is_main, read_file}
 use Rattle.own_grammar.specs.Nesting.{level, nest_blk}
 use Rattle.own_grammar.specs.Tests.{Toks, kind_at, is_mark, is_word, name_at, number_at, text_at, truth_at, root_at, binder_at, keyword_at, is_even, operator_at, leads, prefix_at, negative_at, unary_at, range_at, is_new_line, assign_at, assigns, annotates, opens, closes, goes_on, ends, is_bare, label_at, names_at, closure_head}
 use Rattle.own_grammar.specs.Reading.{Fault, Syntax, Depth, Read, body, fields_on, path_from, path_with, typed_with, let_parts_with, let_case_with, let_literal_with, let_pattern_with, let_patterns_with, parts_with, case_with, bind_with, literal_pattern_with, pattern_with, patterns_with, pattern_step, read_pattern_at, read_pattern, parenthesized_with, implicit_with, literal_at, primary_with, post_with, prefix_with, consume_with, pre_with, level_with, next_with, operator_with, operators_with, branches_with, choice_with, expression_with, closure_with, address_with, given_with, argument_with, arguments_with, all_arguments_with, called_with, call_with, closing_with, member_with, calls_with, bound_with, let_with, ignore_with, discard_with, else_with, if_with, while_with, repeat_with, upper_with, lower_with, for_with, switch_with, return_with, assign_with, evaluate_with, simple_with, statement_with, sep_at, separated_with, statements_with, ends_clause, clause_statements_with, where_with, head_with, clause_with, clauses_with, block_with, step, read_at, read}
@@ -142,3 +145,31 @@ levels =
 levels_are : map (λ (row : Toks × ℕ). outcome (read 4 body 0 row.0)) levels ≡ map (λ (row : Toks × ℕ). row.1) levels
 unfolding fields_on path_from path_with typed_with let_parts_with let_case_with let_literal_with let_pattern_with let_patterns_with parts_with case_with bind_with literal_pattern_with pattern_with patterns_with pattern_step read_pattern_at read_pattern parenthesized_with implicit_with literal_at primary_with post_with prefix_with consume_with pre_with level_with next_with operator_with operators_with branches_with choice_with expression_with closure_with address_with given_with argument_with arguments_with all_arguments_with called_with call_with closing_with member_with calls_with bound_with let_with ignore_with discard_with else_with if_with while_with repeat_with upper_with lower_with for_with switch_with return_with assign_with evaluate_with simple_with statement_with sep_at separated_with statements_with ends_clause clause_statements_with where_with head_with clause_with clauses_with block_with step read_at read kind_at is_mark is_word name_at number_at text_at truth_at root_at binder_at keyword_at is_even operator_at leads prefix_at negative_at unary_at range_at is_new_line assign_at assigns annotates opens closes goes_on ends is_bare label_at names_at closure_head
 levels_are = refl
+
+-- ---- files
+
+-- the number of declarations, or the fault
+abbrev file_outcome : Result File Fault → ℕ
+file_outcome (Ok f) = length f.declarations
+file_outcome (Err (Syntax n)) = 1000 + n
+file_outcome (Err (Depth n)) = 2000 + n
+
+abbrev files : List (Toks × ℕ)
+files =
+    -- struct S: ~Copyable { let x: Int; init(_ y: inout Int) { } /  deinit { } /  consuming func f(g h: (borrowing S, Int) -> ()) -> Void { } } / enum E { case a, b(Int, S) /  case c; func g() { } } / func main() { } / main()
+    (tok (kind.Word word.Struct) true true false ∷ tok (kind.Name (codes "S")) true true false ∷ tok (kind.Mark mark.Colon) false true false ∷ tok (kind.Mark mark.Tilde) true false false ∷ tok (kind.Name (codes "Copyable")) false true false ∷ tok (kind.Mark mark.OpenBrace) true true false ∷ tok (kind.Word word.Let) true true false ∷ tok (kind.Name (codes "x")) true true false ∷ tok (kind.Mark mark.Colon) false true false ∷ tok (kind.Name (codes "Int")) true true false ∷ tok (kind.Mark mark.Semicolon) false true false ∷ tok (kind.Word word.Init) true false false ∷ tok (kind.Mark mark.OpenParen) false false false ∷ tok (kind.Mark mark.Underscore) true true false ∷ tok (kind.Name (codes "y")) true true false ∷ tok (kind.Mark mark.Colon) false true false ∷ tok (kind.Word word.Inout) true true false ∷ tok (kind.Name (codes "Int")) true true false ∷ tok (kind.Mark mark.CloseParen) false true false ∷ tok (kind.Mark mark.OpenBrace) true true false ∷ tok (kind.Mark mark.CloseBrace) true true false ∷ tok (kind.Word word.Deinit) true true true ∷ tok (kind.Mark mark.OpenBrace) true true false ∷ tok (kind.Mark mark.CloseBrace) true true false ∷ tok (kind.Word word.Consuming) true true true ∷ tok (kind.Word word.Func) true true false ∷ tok (kind.Name (codes "f")) true false false ∷ tok (kind.Mark mark.OpenParen) false false false ∷ tok (kind.Name (codes "g")) true true false ∷ tok (kind.Name (codes "h")) true true false ∷ tok (kind.Mark mark.Colon) false true false ∷ tok (kind.Mark mark.OpenParen) true false false ∷ tok (kind.Word word.Borrowing) true true false ∷ tok (kind.Name (codes "S")) true true false ∷ tok (kind.Mark mark.Comma) false true false ∷ tok (kind.Name (codes "Int")) true true false ∷ tok (kind.Mark mark.CloseParen) false true false ∷ tok (kind.Mark mark.Arrow) true true false ∷ tok (kind.Mark mark.OpenParen) true true false ∷ tok (kind.Mark mark.CloseParen) true true false ∷ tok (kind.Mark mark.CloseParen) false true false ∷ tok (kind.Mark mark.Arrow) true true false ∷ tok (kind.Name (codes "Void")) true true false ∷ tok (kind.Mark mark.OpenBrace) true true false ∷ tok (kind.Mark mark.CloseBrace) true true false ∷ tok (kind.Mark mark.CloseBrace) true true false ∷ tok (kind.Word word.Enum) true true true ∷ tok (kind.Name (codes "E")) true true false ∷ tok (kind.Mark mark.OpenBrace) true true false ∷ tok (kind.Word word.Case) true true false ∷ tok (kind.Name (codes "a")) true true false ∷ tok (kind.Mark mark.Comma) false true false ∷ tok (kind.Name (codes "b")) true false false ∷ tok (kind.Mark mark.OpenParen) false false false ∷ tok (kind.Name (codes "Int")) true true false ∷ tok (kind.Mark mark.Comma) false true false ∷ tok (kind.Name (codes "S")) true true false ∷ tok (kind.Mark mark.CloseParen) false true false ∷ tok (kind.Word word.Case) true true true ∷ tok (kind.Name (codes "c")) true true false ∷ tok (kind.Mark mark.Semicolon) false true false ∷ tok (kind.Word word.Func) true true false ∷ tok (kind.Name (codes "g")) true false false ∷ tok (kind.Mark mark.OpenParen) false true false ∷ tok (kind.Mark mark.CloseParen) true true false ∷ tok (kind.Mark mark.OpenBrace) true true false ∷ tok (kind.Mark mark.CloseBrace) true true false ∷ tok (kind.Mark mark.CloseBrace) true true false ∷ tok (kind.Word word.Func) true true true ∷ tok (kind.Name (codes "main")) true false false ∷ tok (kind.Mark mark.OpenParen) false true false ∷ tok (kind.Mark mark.CloseParen) true true false ∷ tok (kind.Mark mark.OpenBrace) true true false ∷ tok (kind.Mark mark.CloseBrace) true true false ∷ tok (kind.Name (codes "main")) true false true ∷ tok (kind.Mark mark.OpenParen) false true false ∷ tok (kind.Mark mark.CloseParen) true true false ∷ [], 3) ∷
+    -- func f() / -> Int { return 1 } ; func main() { } / main();
+    (tok (kind.Word word.Func) true true false ∷ tok (kind.Name (codes "f")) true false false ∷ tok (kind.Mark mark.OpenParen) false true false ∷ tok (kind.Mark mark.CloseParen) true true false ∷ tok (kind.Mark mark.Arrow) true true true ∷ tok (kind.Name (codes "Int")) true true false ∷ tok (kind.Mark mark.OpenBrace) true true false ∷ tok (kind.Word word.Return) true true false ∷ tok (kind.Number 1) true true false ∷ tok (kind.Mark mark.CloseBrace) true true false ∷ tok (kind.Mark mark.Semicolon) true true false ∷ tok (kind.Word word.Func) true true false ∷ tok (kind.Name (codes "main")) true false false ∷ tok (kind.Mark mark.OpenParen) false true false ∷ tok (kind.Mark mark.CloseParen) true true false ∷ tok (kind.Mark mark.OpenBrace) true true false ∷ tok (kind.Mark mark.CloseBrace) true true false ∷ tok (kind.Name (codes "main")) true false true ∷ tok (kind.Mark mark.OpenParen) false true false ∷ tok (kind.Mark mark.CloseParen) true true false ∷ tok (kind.Mark mark.Semicolon) false true false ∷ [], 2) ∷
+    -- func main() { } main()
+    (tok (kind.Word word.Func) true true false ∷ tok (kind.Name (codes "main")) true false false ∷ tok (kind.Mark mark.OpenParen) false true false ∷ tok (kind.Mark mark.CloseParen) true true false ∷ tok (kind.Mark mark.OpenBrace) true true false ∷ tok (kind.Mark mark.CloseBrace) true true false ∷ tok (kind.Name (codes "main")) true false false ∷ tok (kind.Mark mark.OpenParen) false true false ∷ tok (kind.Mark mark.CloseParen) true true false ∷ [], 1003) ∷
+    -- struct S { let init: Int } / main()
+    (tok (kind.Word word.Struct) true true false ∷ tok (kind.Name (codes "S")) true true false ∷ tok (kind.Mark mark.OpenBrace) true true false ∷ tok (kind.Word word.Let) true true false ∷ tok (kind.Word word.Init) true true false ∷ tok (kind.Mark mark.Colon) false true false ∷ tok (kind.Name (codes "Int")) true true false ∷ tok (kind.Mark mark.CloseBrace) true true false ∷ tok (kind.Name (codes "main")) true false true ∷ tok (kind.Mark mark.OpenParen) false true false ∷ tok (kind.Mark mark.CloseParen) true true false ∷ [], 1007) ∷
+    -- func main() { } / main / ()
+    (tok (kind.Word word.Func) true true false ∷ tok (kind.Name (codes "main")) true false false ∷ tok (kind.Mark mark.OpenParen) false true false ∷ tok (kind.Mark mark.CloseParen) true true false ∷ tok (kind.Mark mark.OpenBrace) true true false ∷ tok (kind.Mark mark.CloseBrace) true true false ∷ tok (kind.Name (codes "main")) true true true ∷ tok (kind.Mark mark.OpenParen) true true true ∷ tok (kind.Mark mark.CloseParen) true true false ∷ [], 1002) ∷
+    -- func f(x y z: Int) { } / main()
+    (tok (kind.Word word.Func) true true false ∷ tok (kind.Name (codes "f")) true false false ∷ tok (kind.Mark mark.OpenParen) false false false ∷ tok (kind.Name (codes "x")) true true false ∷ tok (kind.Name (codes "y")) true true false ∷ tok (kind.Name (codes "z")) true true false ∷ tok (kind.Mark mark.Colon) false true false ∷ tok (kind.Name (codes "Int")) true true false ∷ tok (kind.Mark mark.CloseParen) false true false ∷ tok (kind.Mark mark.OpenBrace) true true false ∷ tok (kind.Mark mark.CloseBrace) true true false ∷ tok (kind.Name (codes "main")) true false true ∷ tok (kind.Mark mark.OpenParen) false true false ∷ tok (kind.Mark mark.CloseParen) true true false ∷ [], 1009) ∷
+    []
+
+files_are : map (λ (row : Toks × ℕ). file_outcome (read_file 100 row.0)) files ≡ map (λ (row : Toks × ℕ). row.1) files
+unfolding fields_on path_from path_with typed_with let_parts_with let_case_with let_literal_with let_pattern_with let_patterns_with parts_with case_with bind_with literal_pattern_with pattern_with patterns_with pattern_step read_pattern_at read_pattern parenthesized_with implicit_with literal_at primary_with post_with prefix_with consume_with pre_with level_with next_with operator_with operators_with branches_with choice_with expression_with closure_with address_with given_with argument_with arguments_with all_arguments_with called_with call_with closing_with member_with calls_with bound_with let_with ignore_with discard_with else_with if_with while_with repeat_with upper_with lower_with for_with switch_with return_with assign_with evaluate_with simple_with statement_with sep_at separated_with statements_with ends_clause clause_statements_with where_with head_with clause_with clauses_with block_with step read_at read kind_at is_mark is_word name_at number_at text_at truth_at root_at binder_at keyword_at is_even operator_at leads prefix_at negative_at unary_at range_at is_new_line assign_at assigns annotates opens closes goes_on ends is_bare label_at names_at closure_head wanted result_with returns_with moded_with inner_with arrow_with type_with labelled_with parameter_with parameters_with function_body_with function_with method_with field_with initializer_with deinitializer_with struct_member_with name_with item_with cases_with enum_member_with noncopyable_with members_with named_with declaration_with end_with main_with is_main read_file listed_at listed_on bracketed_with separated_at separated_on passing_at changing_at is_named
+files_are = refl
