@@ -1,5 +1,5 @@
 -- Depth comes only where a partial tree stands a level too deep.
-use Rattle.std.proofs.Common.{◌≡◌, ℕ, zero, suc, ◌+◌, ◌≤◌, ◌<◌, Bool, cond, eqb, ltb, true, false, List, [], ◌∷◌, ◌++◌, length, Option, Some, None, Ok, Err, ◌⊎◌, inl, inr, refl, ap, ◌∙◌, arith}
+use Rattle.std.proofs.Common.{◌≡◌, ℕ, zero, suc, ◌+◌, ◌≤◌, ◌<◌, Bool, cond, eqb, ltb, true, false, List, [], ◌∷◌, ◌++◌, length, Option, Some, None, Ok, Err, ◌⊎◌, inl, inr, refl, arith}
 use Rattle.own_tree.specs.declared.token.Kind.TheVariants as kind
 use Rattle.own_tree.specs.declared.token.Mark.TheVariants as mark
 use Rattle.own_tree.specs.declared.token.Word.TheVariants as word
@@ -19,7 +19,7 @@ use Rattle.own_grammar.specs.Spells.{IsLeft, SpellsPath, SpellsE, SpellsA, Spell
 use Rattle.own_grammar.specs.Reading.{Depth, ◌>>=◌, syntax_at, depth_at, on_some, Goal, expression, operand, operators_on, calls_on, arguments_on, Reader, path_from, path_with, parenthesized_with, implicit_with, literal_at, primary_with, post_with, prefix_with, consume_with, pre_with, level_with, next_with, operator_with, operators_with, branches_with, choice_with, expression_with, closure_with, address_with, given_with, argument_with, arguments_with, all_arguments_with, called_with, call_with, closing_with, member_with, calls_with, step, statement, statements_on, clause_on, clauses_on, body, typed_with, bound, bound_with, let_with, ignore_with, discard_with, else_with, if_with, while_with, repeat_with, upper_with, lower_with, for_with, switch_with, return_with, path_in, assign_with, evaluate_with, simple_with, statement_with, sep_at, separated_with, statements_with, ends_clause, clause_statements_with, where_with, head_with, clause_with, clauses_with, block_with, patterns_on, read_pattern, read_at, read}
 use Rattle.own_grammar.proofs.Facts.{mark_kind, word_kind, at_mark, closes_kind}
 use Rattle.own_grammar.proofs.Edges.{sep_no_depth, clash}
-use Rattle.own_grammar.proofs.Lists.{args_in, args_list, pats_in}
+use Rattle.own_grammar.proofs.Lists.{args_in, pats_in, args_same}
 use Rattle.std.proofs.lemmas.Bool.{eqb-true}
 use Rattle.own_grammar.proofs.Steps.{done, chosen, some_or}
 use Rattle.own_grammar.proofs.Paths.{typed_sound}
@@ -230,7 +230,7 @@ module _ (most : ℕ) where
         → SpellsE f tight context start from → is_post f ≡ true → opens context from ≡ true → SpellsA es (after from) ts → d + nest f < most → d + suc (nest_args es) ≤ most → DeepE 0 tight context d start n
     unfolding called_with
     deep_called tight context f d xs ts start from es n e same sp is lp sps lt lts =
-        let args : args_of xs ≡ es = ap args_of same ∙ args_list es in
+        let args : args_of xs ≡ es = args_same xs es same in
         let q = syn (is_mark mark.CloseParen ts) (cond (closes context (after ts)) (closure_with most k (d + 1) (after ts) >>= λ c. k (calls_on context (call_closing (till (exp_span f) (clo_span c.0)) f (args_of xs) c.0)) d c.1) (k (calls_on context (call (till (exp_span f) (here ts)) f (args_of xs))) d (after ts))) (length ts) n e in
         let close = mark_kind mark.CloseParen ts q.0 in
         elim (chosen (closes context (after ts)) _ _ _ q.1) [

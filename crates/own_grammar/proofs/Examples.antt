@@ -1,5 +1,5 @@
 -- Small texts, and what is read of them.
-use Rattle.std.proofs.Common.{◌≡◌, ℕ, ◌+◌, Bool, true, false, List, [], ◌∷◌, ◌++◌, map, length, Option, Some, None, Result, Ok, Err, refl, codes}
+use Rattle.std.proofs.Common.{◌≡◌, ℕ, ◌+◌, Bool, true, false, List, [], ◌∷◌, ◌++◌, map, length, Result, Ok, Err, refl, codes}
 use Rattle.own_tree.specs.declared.token.Mark.TheVariants as mark
 use Rattle.own_tree.specs.declared.token.Word.TheVariants as word
 use Rattle.own_tree.specs.declared.token.Kind.{Kind}
@@ -9,11 +9,11 @@ use Rattle.own_tree.specs.declared.tree.Root.{Root}
 use Rattle.own_tree.specs.declared.tree.Root.TheVariants.{Named, SelfWord}
 use Rattle.own_tree.specs.declared.tree.PrefixOperator.{PrefixOperator}
 use Rattle.own_tree.specs.declared.tree.PrefixOperator.TheVariants as sign
-use Rattle.own_tree.specs.Source.{File, Exp, number, text, truth, path, implicit_member, parenthesized, consumed, prefix, binary, choice, member, call, call_closing, call_closure, Stm, evaluate, Stms, no_stms, stm, Blk, block}
+use Rattle.own_tree.specs.Source.{File, Exp, number, text, truth, path, implicit_member, parenthesized, consumed, prefix, binary, choice, member, call, call_closing, call_closure, evaluate, Stms, stm, Blk, block}
 use Rattle.own_grammar.specs.Lists.{listed_at, listed_on, bracketed_with, separated_at, separated_on}
 use Rattle.own_grammar.specs.Declarations.{passing_at, changing_at, is_named}
 use Rattle.own_grammar.specs.ReadingFile.{wanted, result_with, returns_with, moded_with, inner_with, arrow_with, type_with, labelled_with, parameter_with, parameters_with, function_body_with, function_with, method_with, field_with, initializer_with, deinitializer_with, struct_member_with, name_with, item_with, cases_with, enum_member_with, noncopyable_with, members_with, named_with, declaration_with, end_with, main_with, is_main, read_file}
-use Rattle.own_grammar.specs.Nesting.{level, nest_blk}
+use Rattle.own_grammar.specs.Nesting.{level}
 use Rattle.own_grammar.specs.Tests.{Toks, kind_at, is_mark, is_word, name_at, number_at, text_at, truth_at, root_at, binder_at, keyword_at, is_even, operator_at, leads, prefix_at, negative_at, unary_at, range_at, is_new_line, assign_at, assigns, annotates, opens, closes, goes_on, ends, is_bare, label_at, names_at, closure_head}
 use Rattle.own_grammar.specs.Reading.{Fault, Syntax, Depth, Read, body, fields_on, path_from, path_with, typed_with, let_parts_with, let_case_with, let_literal_with, let_pattern_with, let_patterns_with, parts_with, case_with, bind_with, literal_pattern_with, pattern_with, patterns_with, pattern_step, read_pattern_at, read_pattern, parenthesized_with, implicit_with, literal_at, primary_with, post_with, prefix_with, consume_with, pre_with, level_with, next_with, operator_with, operators_with, branches_with, choice_with, expression_with, closure_with, address_with, given_with, argument_with, arguments_with, all_arguments_with, called_with, call_with, closing_with, member_with, calls_with, bound_with, let_with, ignore_with, discard_with, else_with, if_with, while_with, repeat_with, upper_with, lower_with, for_with, switch_with, return_with, assign_with, evaluate_with, simple_with, statement_with, sep_at, separated_with, statements_with, ends_clause, clause_statements_with, where_with, head_with, clause_with, clauses_with, block_with, step, read_at, read}
 

@@ -1,5 +1,5 @@
 -- The parts of the tree as lists.
-use Rattle.std.proofs.Common.{◌≡◌, List, [], ◌∷◌, refl, ap}
+use Rattle.std.proofs.Common.{◌≡◌, List, [], ◌∷◌, refl, ap, ◌∙◌}
 use Rattle.own_tree.specs.Source.{LetPat, LetPats, no_let_pats, let_pat, Pat, Pats, no_pats, pat, Args, no_args, arg, Stm, Stms, no_stms, stm, Clauses, no_clauses, clause}
 use Rattle.own_tree.specs.View.{Arg, Cla, let_pats_of, pats_of, args_of, stms_of, clauses_of}
 
@@ -47,3 +47,18 @@ pub clauses_list : (cs : Clauses) → clauses_of (clauses_in cs) ≡ cs
 unfolding clauses_in
 clauses_list no_clauses = refl
 clauses_list (clause s h ss cs) = ap (clause s h ss) (clauses_list cs)
+
+pub let_pats_same : (xs : List LetPat) (ps : LetPats) → xs ≡ let_pats_in ps → let_pats_of xs ≡ ps
+let_pats_same xs ps e = ap let_pats_of e ∙ let_pats_list ps
+
+pub pats_same : (xs : List Pat) (ps : Pats) → xs ≡ pats_in ps → pats_of xs ≡ ps
+pats_same xs ps e = ap pats_of e ∙ pats_list ps
+
+pub args_same : (xs : List Arg) (ps : Args) → xs ≡ args_in ps → args_of xs ≡ ps
+args_same xs ps e = ap args_of e ∙ args_list ps
+
+pub stms_same : (xs : List Stm) (ps : Stms) → xs ≡ stms_in ps → stms_of xs ≡ ps
+stms_same xs ps e = ap stms_of e ∙ stms_list ps
+
+pub clauses_same : (xs : List Cla) (ps : Clauses) → xs ≡ clauses_in ps → clauses_of xs ≡ ps
+clauses_same xs ps e = ap clauses_of e ∙ clauses_list ps

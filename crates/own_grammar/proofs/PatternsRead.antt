@@ -1,5 +1,5 @@
 -- Patterns: what is read is spelled, and is read whatever the fuel.
-use Rattle.std.proofs.Common.{◌≡◌, ℕ, zero, suc, ◌≤◌, ◌<◌, cond, true, false, List, [], ◌∷◌, ◌++◌, length, Option, Some, None, Ok, Err, inl, inr, refl, ap, ◌∙◌, append_assoc, arith}
+use Rattle.std.proofs.Common.{◌≡◌, ℕ, zero, suc, ◌≤◌, ◌<◌, cond, true, false, List, [], ◌∷◌, ◌++◌, length, Option, Some, None, Ok, Err, inl, inr, refl, ◌∙◌, append_assoc, arith}
 use Rattle.own_tree.specs.declared.token.Kind.TheVariants as kind
 use Rattle.own_tree.specs.declared.token.Mark.TheVariants as mark
 use Rattle.own_tree.specs.declared.token.Word.TheVariants as word
@@ -11,7 +11,7 @@ use Rattle.own_grammar.specs.Nesting.{let_pat_span, is_let_case}
 use Rattle.own_grammar.specs.Spells.{SpellsCase, SpellsLetPat, SpellsLetPats, SpellsPat, SpellsPats}
 use Rattle.own_grammar.specs.Reading.{Syntax, Depth, ◌>>=◌, syntax_at, PatternGoal, let_pattern, let_patterns_on, pattern, patterns_on, PatternOut, PatternReader, let_parts_with, let_case_with, let_literal_with, let_pattern_with, let_patterns_with, parts_with, case_with, bind_with, literal_pattern_with, pattern_with, patterns_with, pattern_step, read_pattern_at, read_pattern}
 use Rattle.own_grammar.proofs.Facts.{number_kind, name_kind, truth_word, truth_kind, mark_kind, word_kind, negative_kind}
-use Rattle.own_grammar.proofs.Lists.{let_pats_in, let_pats_list, pats_in, pats_list}
+use Rattle.own_grammar.proofs.Lists.{let_pats_in, pats_in, let_pats_same, pats_same}
 use Rattle.own_grammar.proofs.Lengths.{after_short, after_le, let_pat_short, pat_short}
 use Rattle.own_grammar.proofs.Steps.{done, bind_ok, ok_is, chosen, kept, some_or, some_kept, bind_err, bind_deep, syn, some_syn, no_ok, Near, same, near_bind, near_cond, near_some, equal}
 
@@ -55,7 +55,7 @@ module _ (k : PatternReader) (snd : Sound k) where
       let b = bind_ok (k (let_patterns_on []) us) (λ ps. cond (is_mark mark.CloseParen ps.1) (done (let_case (till (here ts) (here ps.1)) n (let_pats_of ps.0), after ps.1)) (syntax_at ps.1)) x e in
       let s = snd (let_patterns_on []) us b.0 b.1 in
       let q = kept (is_mark mark.CloseParen b.0.1) (done (let_case (till (here ts) (here b.0.1)) n (let_pats_of b.0.0), after b.0.1)) (Syntax (length b.0.1)) x b.2 in
-      let list : let_pats_of b.0.0 ≡ let_pat s.0 s.1 = ap let_pats_of s.2 ∙ let_pats_list (let_pat s.0 s.1) in
+      let list : let_pats_of b.0.0 ≡ let_pat s.0 s.1 = let_pats_same b.0.0 (let_pat s.0 s.1) s.2 in
       rw (← ok_is (let_case (till (here ts) (here b.0.1)) n (let_pats_of b.0.0), after b.0.1) x q.1, list) (c, paren, b.0.1, s.3, mark_kind mark.CloseParen b.0.1 q.0, refl, refl)
 
   let_case_sound : (ts : Toks) (x : LetPat × Toks) → is_mark mark.Dot ts ≡ true → let_case_with k ts ≡ Ok x → SpellsLetPat x.0 ts x.1
@@ -105,7 +105,7 @@ module _ (k : PatternReader) (snd : Sound k) where
       let b = bind_ok (k (patterns_on []) us) (λ ps. cond (is_mark mark.CloseParen ps.1) (done (on_case (till (here ts) (here ps.1)) n (pats_of ps.0), after ps.1)) (syntax_at ps.1)) x e in
       let s = snd (patterns_on []) us b.0 b.1 in
       let q = kept (is_mark mark.CloseParen b.0.1) (done (on_case (till (here ts) (here b.0.1)) n (pats_of b.0.0), after b.0.1)) (Syntax (length b.0.1)) x b.2 in
-      let list : pats_of b.0.0 ≡ pat s.0 s.1 = ap pats_of s.2 ∙ pats_list (pat s.0 s.1) in
+      let list : pats_of b.0.0 ≡ pat s.0 s.1 = pats_same b.0.0 (pat s.0 s.1) s.2 in
       rw (← ok_is (on_case (till (here ts) (here b.0.1)) n (pats_of b.0.0), after b.0.1) x q.1, list) (c, paren, b.0.1, s.3, mark_kind mark.CloseParen b.0.1 q.0, refl, refl)
 
   case_sound : (ts : Toks) (x : Pat × Toks) → is_mark mark.Dot ts ≡ true → case_with k ts ≡ Ok x → SpellsPat x.0 ts x.1

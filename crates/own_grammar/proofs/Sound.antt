@@ -23,7 +23,7 @@ use Rattle.own_grammar.specs.Spells.{IsLeft, Labels, SpellsPath, SpellsE, Spells
 use Rattle.own_grammar.specs.Reading.{Syntax, ◌>>=◌, syntax_at, depth_at, on_some, Goal, expression, operand, operators_on, calls_on, arguments_on, Out, Reader, path_from, path_with, parenthesized_with, implicit_with, literal_in, literal_at, primary_with, post_with, prefix_with, consume_with, pre_with, level_with, next_with, operator_with, operators_with, branches_with, choice_with, expression_with, closure_with, address_with, given_with, argument_with, arguments_with, all_arguments_with, called_with, call_with, closing_with, member_with, calls_with, step, statement, statements_on, clause_on, clauses_on, body, typed_with, bound, bound_with, let_with, ignore_with, discard_with, else_with, if_with, while_with, repeat_with, upper_with, lower_with, for_with, switch_with, return_with, path_in, assign_with, evaluate_with, simple_with, statement_with, sep_at, separated_with, statements_with, ends_clause, clause_statements_with, where_with, head_with, clause_with, clauses_with, block_with, patterns_on, read_pattern, read_at, read}
 use Rattle.own_grammar.proofs.Facts.{number_kind, text_kind, truth_kind, root_kind, mark_kind, word_kind, at_mark, closes_kind, unary_kind, negative_kind}
 use Rattle.own_grammar.proofs.Edges.{sep_sound, at_keyword, can_start, starts_at, starts_truth, starts_root, starts_prefix, clash}
-use Rattle.own_grammar.proofs.Lists.{args_in, args_list, stms_in, stms_list, clauses_in, clauses_list, pats_in, pats_list}
+use Rattle.own_grammar.proofs.Lists.{args_in, stms_in, clauses_in, pats_in, pats_list, stms_same, args_same, clauses_same}
 use Rattle.std.proofs.lemmas.Bool.{ltb-true, eqb-true}
 use Rattle.own_grammar.proofs.Steps.{done, bind_ok, ok_is, chosen, kept, some_or, some_kept}
 use Rattle.own_grammar.proofs.Paths.{path_from_sound, path_sound, typed_sound}
@@ -327,7 +327,7 @@ module _ (most : ℕ) where
         let lt = ltb-true d most q.0 in
         let s = bind_ok (k (statements_on []) (d + 1) h.1) (λ ss. done (closure (till (here ts) (here ss.1)) h.0 (stms_of ss.0), after ss.1)) x q.1 in
         let r = snd (statements_on []) (d + 1) h.1 s.0 s.1 (omega (arith, lt)) in
-        let same : stms_of s.0.0 ≡ r.0 = ap stms_of r.1 ∙ stms_list r.0 in
+        let same : stms_of s.0.0 ≡ r.0 = stms_same s.0.0 r.0 r.1 in
         rw (← ok_is (closure (till (here ts) (here s.0.1)) h.0 (stms_of s.0.0), after s.0.1) x s.2, same) ((mark_kind mark.OpenBrace ts lb, h.1, s.0.1, refl, r.2, refl, refl), omega (arith, r.3))
 
     pub sound_given : (d : ℕ) (ts : Toks) (x : Given × Toks) → given_with most k d ts ≡ Ok x → SpellsG x.0 ts x.1 × (d + nest_given x.0 ≤ most)
@@ -385,7 +385,7 @@ module _ (most : ℕ) where
         → SpellsE f tight context start from → is_post f ≡ true → opens context from ≡ true → SpellsA es (after from) ts → d + nest f < most → d + suc (nest_args es) ≤ most → Post x.0 tight context d start x.1
     unfolding called_with
     sound_called tight context f d xs ts start from es x e same sp is lp sps lt lts =
-        let args : args_of xs ≡ es = ap args_of same ∙ args_list es in
+        let args : args_of xs ≡ es = args_same xs es same in
         let q = kept (is_mark mark.CloseParen ts) (cond (closes context (after ts)) (closure_with most k (d + 1) (after ts) >>= λ c. k (calls_on context (call_closing (till (exp_span f) (clo_span c.0)) f (args_of xs) c.0)) d c.1) (k (calls_on context (call (till (exp_span f) (here ts)) f (args_of xs))) d (after ts))) _ x e in
         let close = mark_kind mark.CloseParen ts q.0 in
         elim (chosen (closes context (after ts)) _ _ _ q.1) [
@@ -544,7 +544,7 @@ module _ (most : ℕ) where
         let q = kept (is_mark mark.OpenBrace c.0.1) (k (clauses_on []) (d + 1) (after c.0.1) >>= λ cs. done (switch (till (here ts) (here cs.1)) c.0.0 (clauses_of cs.0), after cs.1)) _ x c.2 in
         let s = bind_ok (k (clauses_on []) (d + 1) (after c.0.1)) (λ cs. done (switch (till (here ts) (here cs.1)) c.0.0 (clauses_of cs.0), after cs.1)) x q.1 in
         let r = snd (clauses_on []) (d + 1) (after c.0.1) s.0 s.1 (omega (arith, lt)) in
-        let same : clauses_of s.0.0 ≡ r.0 = ap clauses_of r.1 ∙ clauses_list r.0 in
+        let same : clauses_of s.0.0 ≡ r.0 = clauses_same s.0.0 r.0 r.1 in
         rw (← ok_is (switch (till (here ts) (here s.0.1)) c.0.0 (clauses_of s.0.0), after s.0.1) x s.2, same) ((word_kind word.Switch ts kw, c.0.1, s.0.1, p.0, mark_kind mark.OpenBrace c.0.1 q.0, r.2, refl, refl), omega (arith, p.1, r.3))
 
     sound_return : (d : ℕ) (ts : Toks) (x : Stm × Toks) → d < most → is_word word.Return ts ≡ true → return_with k d ts ≡ Ok x → Said x.0 d ts x.1
@@ -673,7 +673,7 @@ module _ (most : ℕ) where
         let q = kept (is_mark mark.Colon h.0.1) (k (clause_on []) d (after h.0.1) >>= λ ss. done ((till (here ts) (stms_end (here h.0.1) (stms_of ss.0)), h.0.0, stms_of ss.0), ss.1)) _ x h.2 in
         let s = bind_ok (k (clause_on []) d (after h.0.1)) (λ ss. done ((till (here ts) (stms_end (here h.0.1) (stms_of ss.0)), h.0.0, stms_of ss.0), ss.1)) x q.1 in
         let r = snd (clause_on []) d (after h.0.1) s.0 s.1 in
-        let same : stms_of s.0.0 ≡ stm r.0 r.1 = ap stms_of r.2 ∙ stms_list (stm r.0 r.1) in
+        let same : stms_of s.0.0 ≡ stm r.0 r.1 = stms_same s.0.0 (stm r.0 r.1) r.2 in
         rw (← ok_is ((till (here ts) (stms_end (here h.0.1) (stms_of s.0.0)), h.0.0, stms_of s.0.0), s.0.1) x s.2, same) (h.0.1, p.0, mark_kind mark.Colon h.0.1 q.0, r.3, refl, p.1, r.4)
 
     sound_clauses : (xs : List Cla) (d : ℕ) (ts : Toks) (x : List Cla × Toks) → clauses_with k xs d ts ≡ Ok x → Spelled (clauses_on xs) d x.0 ts x.1
@@ -694,7 +694,7 @@ module _ (most : ℕ) where
         let s = bind_ok (k (statements_on []) (d + 1) (after ts)) (λ ss. done (block (till (here ts) (here ss.1)) (stms_of ss.0), after ss.1)) x q2.1 in
         let lt = ltb-true d most q.0 in
         let r = snd (statements_on []) (d + 1) (after ts) s.0 s.1 (omega (arith, lt)) in
-        let same : stms_of s.0.0 ≡ r.0 = ap stms_of r.1 ∙ stms_list r.0 in
+        let same : stms_of s.0.0 ≡ r.0 = stms_same s.0.0 r.0 r.1 in
         rw (← ok_is (block (till (here ts) (here s.0.1)) (stms_of s.0.0), after s.0.1) x s.2, same) ((mark_kind mark.OpenBrace ts q2.0, s.0.1, r.2, refl, refl), omega (arith, r.3))
 
     pub sound_step : Sound (step most k)
