@@ -90,7 +90,6 @@ truth_facts true = refl
 truth_facts false = refl
 
 module _ (most : ℕ) (R : Reader) (opened : (g : Goal) (d : ℕ) (ts : Toks) → R g d ts ≡ step most R g d ts) where
-
   -- ---- where the loops stop
 
   stop_by : (j : ℕ) (context : Context) (e : Exp) (d : ℕ) (ts : Toks) (x : Option BinaryOperator) → suc j < level_in x → on_some x (operator_with most R j context e d ts) (Ok (e, ts)) ≡ Ok (e, ts)
@@ -140,8 +139,9 @@ module _ (most : ℕ) (R : Reader) (opened : (g : Goal) (d : ℕ) (ts : Toks) �
   unfolding level_with
   reads zero e context d from to small own le st = own.pre (omega arith) st
   reads (suc j) e context d from to small own le st = elim (le_tells (level_of e) j) [
-      inl low ↦ bind_is (level_with most R j context d from) (λ x. R (operators_on j context x.0) d x.1) (e, to) (reads j e context d from to (omega (arith, small)) own low (weaker (suc j) j context to (omega arith) st)) ∙ operators_stop j context e d to st.above
-    | inr high ↦ at_level j e context d from to (omega (arith, small)) own (omega (arith, high, le)) st ]
+    | inl low ↦ bind_is (level_with most R j context d from) (λ x. R (operators_on j context x.0) d x.1) (e, to) (reads j e context d from to (omega (arith, small)) own low (weaker (suc j) j context to (omega arith) st)) ∙ operators_stop j context e d to st.above
+    | inr high ↦ at_level j e context d from to (omega (arith, small)) own (omega (arith, high, le)) st
+  ]
 
   spine_high : (o : BinaryOperator) (j : ℕ) (a : Exp) (context : Context) (d : ℕ) (from to : Toks) → j < 5 → Own false context d a from to → chains (level o) ≡ true → level o ≡ suc j → level_of a ≡ suc j → Stops j context to → level_with most R (suc j) context d from ≡ R (operators_on j context a) d to
   unfolding next_with
@@ -155,8 +155,9 @@ module _ (most : ℕ) (R : Reader) (opened : (g : Goal) (d : ℕ) (ts : Toks) �
   spine : (o : BinaryOperator) (j : ℕ) (a : Exp) (context : Context) (d : ℕ) (from to : Toks) → j < 5 → Own false context d a from to → IsLeft (chains (level o)) (level o) (level_of a) → level o ≡ suc j → Stops j context to → level_with most R (suc j) context d from ≡ R (operators_on j context a) d to
   unfolding level_with
   spine o j a context d from to lt own left same st = elim (left_level (chains (level o)) (level o) (level_of a) j left same) [
-      inl low ↦ bind_is (level_with most R j context d from) (λ x. R (operators_on j context x.0) d x.1) (a, to) (reads j a context d from to (omega (arith, lt)) own low st)
-    | inr high ↦ spine_high o j a context d from to lt own high.0 same high.1 st ]
+    | inl low ↦ bind_is (level_with most R j context d from) (λ x. R (operators_on j context x.0) d x.1) (a, to) (reads j a context d from to (omega (arith, lt)) own low st)
+    | inr high ↦ spine_high o j a context d from to lt own high.0 same high.1 st
+  ]
 
   no_choice : (context : Context) (d : ℕ) (e : Exp) (ts : Toks) → is_mark mark.Question ts ≡ false → choice_with most R context d e ts ≡ Ok (e, ts)
   unfolding choice_with
@@ -165,8 +166,9 @@ module _ (most : ℕ) (R : Reader) (opened : (g : Goal) (d : ℕ) (ts : Toks) �
   pub expression_is : (e : Exp) (context : Context) (d : ℕ) (from to : Toks) → Own false context d e from to → Stops 6 context to → expression_with most R context d from ≡ Ok (e, to)
   unfolding expression_with
   expression_is e context d from to own st = elim (le_tells (level_of e) 5) [
-      inl low ↦ bind_is (level_with most R 5 context d from) (λ c. choice_with most R context d c.0 c.1) (e, to) (reads 5 e context d from to (omega arith) own low (weaker 6 5 context to (omega arith) st)) ∙ no_choice context d e to (st.question (omega arith))
-    | inr high ↦ own.whole refl high st ]
+    | inl low ↦ bind_is (level_with most R 5 context d from) (λ c. choice_with most R context d c.0 c.1) (e, to) (reads 5 e context d from to (omega arith) own low (weaker 6 5 context to (omega arith) st)) ∙ no_choice context d e to (st.question (omega arith))
+    | inr high ↦ own.whole refl high st
+  ]
 
   pub expression_at : (e : Exp) (context : Context) (d : ℕ) (from to : Toks) → Good e → SpellsE e false context from to → Stops 6 context to → d + nest e ≤ most → expression_with most R context d from ≡ Ok (e, to)
   expression_at e context d from to good sp st fit = expression_is e context d from to (good false context d from to sp fit) st
@@ -182,16 +184,24 @@ module _ (most : ℕ) (R : Reader) (opened : (g : Goal) (d : ℕ) (ts : Toks) �
       → ((is_call e ≡ true → closes context to ≡ false) → (is_path e ≡ true → is_mark mark.Dot to ≡ false) → post_with R tight context d from ≡ R (calls_on context e) d to) → Own tight context d e from to
   unfolding pre_with
   own_post e tight context d from to is low lt start unled kept p = record {
-    begins = start; unled = λ _. (unled, kept); post = λ _ cl dot. p cl dot;
+    begins = start;
+    unled = λ _. (unled, kept);
+    post = λ _ cl dot. p cl dot;
     pre = λ _ st. rw (lt-ltb d most lt, unled, kept) (p (λ _. st.closes) (λ _. st.dot) ∙ calls_stop context e d to st.opens st.closes st.dot);
-    chain = λ _ j less same st. absurd (omega (arith, low, same)); whole = λ _ high st. absurd (omega (arith, low, high)) }
+    chain = λ _ j less same st. absurd (omega (arith, low, same));
+    whole = λ _ high st. absurd (omega (arith, low, high));
+  }
 
   own_pre : (e : Exp) (tight : Bool) (context : Context) (d : ℕ) (from to : Toks) → is_post e ≡ false → level_of e ≡ 0 → can_start (kind_at from) ≡ true
       → (Stops 0 context to → pre_with most R tight context d from ≡ Ok (e, to)) → Own tight context d e from to
   own_pre e tight context d from to isnt low start p = record {
-    begins = start; unled = λ is. absurd (clash _ is isnt); post = λ is cl dot. absurd (clash _ is isnt);
+    begins = start;
+    unled = λ is. absurd (clash _ is isnt);
+    post = λ is cl dot. absurd (clash _ is isnt);
     pre = λ _ st. p st;
-    chain = λ _ j less same st. absurd (omega (arith, low, same)); whole = λ _ high st. absurd (omega (arith, low, high)) }
+    chain = λ _ j less same st. absurd (omega (arith, low, same));
+    whole = λ _ high st. absurd (omega (arith, low, high));
+  }
 
   own_number : (s : Span) (negative : Bool) (n : ℕ) → Good (number s negative n)
   unfolding post_with primary_with
@@ -230,8 +240,15 @@ module _ (most : ℕ) (R : Reader) (opened : (g : Goal) (d : ℕ) (ts : Toks) �
   unfolding post_with primary_with parenthesized_with
   own_parenthesized s e good tight context d from to (k, mid, sp, close, is_to, is_s) fit =
       rw (is_s, is_to) (own_post (parenthesized (till (here from) (here mid)) e) tight context d from (after mid) refl refl (omega (arith, fit)) (starts_at from _ k refl) (no_unary tight from _ k refl) (at_word word.Consume from _ k)
-      (λ cl dot. rw (no_negative tight from _ k refl, literal_mark from _ k, root_mark _ from k, at_mark mark.Dot from _ k, at_mark mark.OpenParen from _ k,
-        expression_goal e Inside (d + 1) (after from) mid good sp (stops_at 6 Inside mid _ (omega arith) close refl) (omega (arith, fit)), at_mark mark.CloseParen mid _ close) refl))
+      (λ cl dot. rw (
+        no_negative tight from _ k refl,
+        literal_mark from _ k,
+        root_mark _ from k,
+        at_mark mark.Dot from _ k,
+        at_mark mark.OpenParen from _ k,
+        expression_goal e Inside (d + 1) (after from) mid good sp (stops_at 6 Inside mid _ (omega arith) close refl) (omega (arith, fit)),
+        at_mark mark.CloseParen mid _ close,
+      ) refl))
 
   own_consumed : (s : Span) (p : Path) → Good (consumed s p)
   unfolding pre_with consume_with
@@ -270,7 +287,8 @@ module _ (most : ℕ) (R : Reader) (opened : (g : Goal) (d : ℕ) (ts : Toks) �
         post = λ e cl dot. absurd cc;
         pre = λ e st. absurd (omega (arith, bounds.0, e));
         chain = λ loose j less same st. binary_chain s o at_ a b tight context d from mid to loose oa ob left is is_at right is_s (omega (arith, fit)) j less same st;
-        whole = λ loose high st. absurd (omega (arith, bounds.1, high)) }
+        whole = λ loose high st. absurd (omega (arith, bounds.1, high));
+      }
 
   choice_whole : (s : Span) (c a b : Exp) (tight : Bool) (context : Context) (d : ℕ) (from mid last to : Toks) → tight ≡ false → Own tight context d c from mid → level_of c < 6 → kind_at mid ≡ Some (kind.Mark mark.Question)
       → R (expression context) (d + 1) (after mid) ≡ Ok (a, last) → kind_at last ≡ Some (kind.Mark mark.Colon) → R (expression context) (d + 1) (after last) ≡ Ok (b, to) → s ≡ till (exp_span c) (exp_span b) → d + nest c < most
@@ -290,8 +308,9 @@ module _ (most : ℕ) (R : Reader) (opened : (g : Goal) (d : ℕ) (ts : Toks) �
         pre = λ e st. absurd cc;
         chain = λ loose j less same st. absurd (omega (arith, less, same));
         whole = λ loose high st. choice_whole s c a b tight context d from mid last to loose oc low q
-          (expression_goal a context (d + 1) (after mid) last ga spa (stops_at 6 context last _ (omega arith) colon refl) (omega (arith, fit))) colon
-          (expression_goal b context (d + 1) (after last) to gb spb st (omega (arith, fit))) is_s (omega (arith, fit)) }
+            (expression_goal a context (d + 1) (after mid) last ga spa (stops_at 6 context last _ (omega arith) colon refl) (omega (arith, fit))) colon
+            (expression_goal b context (d + 1) (after last) to gb spb st (omega (arith, fit))) is_s (omega (arith, fit));
+      }
 
   -- ---- closures and arguments
 
@@ -312,19 +331,22 @@ module _ (most : ℕ) (R : Reader) (opened : (g : Goal) (d : ℕ) (ts : Toks) �
   unfolding given_with
   gives_value e good d from to sp st fit = let o = good false Inside d from to sp fit in record {
     reads = rw (no_mark mark.Ampersand from refl o.begins, no_mark mark.OpenBrace from refl o.begins, expression_is e Inside d from to o st) refl;
-    begins = no_mark mark.CloseParen from refl o.begins }
+    begins = no_mark mark.CloseParen from refl o.begins;
+  }
 
   gives_address : (s : Span) (p : Path) → GoodG (address s p)
   unfolding given_with address_with
   gives_address s p d from to (k, sp, is_s) st fit = record {
     reads = rw (is_s, at_mark mark.Ampersand from _ k, lt-ltb d most (omega (arith, fit)), path_is p (after from) to sp st.dot) refl;
-    begins = at_mark mark.CloseParen from _ k }
+    begins = at_mark mark.CloseParen from _ k;
+  }
 
   gives_closure : (c : Clo) → GoodK c → GoodG (closing c)
   unfolding given_with
   gives_closure c good d from to sp st fit = let k = closure_begins c from to sp in record {
     reads = rw (at_mark mark.Ampersand from _ k, at_mark mark.OpenBrace from _ k, good d from to sp fit) refl;
-    begins = at_mark mark.CloseParen from _ k }
+    begins = at_mark mark.CloseParen from _ k;
+  }
 
   argument_is : (l : Option Name) (g : Given) (d : ℕ) (from start to : Toks) → Labels l from start → given_with most R (d + 1) start ≡ Ok (g, to) → argument_with most R d from ≡ Ok ((l, g), to)
   unfolding argument_with
@@ -346,7 +368,7 @@ module _ (most : ℕ) (R : Reader) (opened : (g : Goal) (d : ℕ) (ts : Toks) �
   more_arg l' g' es good' rest l g good xs d from to (start, mid, lab, sp, comma, sps) close fit =
       let o = good (d + 1) start mid sp (stops_at 6 Inside mid _ (omega arith) comma refl) (omega (arith, fit)) in
       rw (argument_is l g d from start mid lab o.reads, at_mark mark.Comma mid _ comma, opened (arguments_on (xs ++ (l, g) ∷ [])) d (after mid), rest l' g' good' (xs ++ (l, g) ∷ []) d (after mid) to sps close (omega (arith, fit)))
-        (ap (λ (ys : List Arg). Ok (ys, to)) (append_assoc xs ((l, g) ∷ []) (args_in (arg l' g' es))))
+      (ap (λ (ys : List Arg). Ok (ys, to)) (append_assoc xs ((l, g) ∷ []) (args_in (arg l' g' es))))
 
   -- the first argument is no parenthesis
   first_argument : (l : Option Name) (from start : Toks) → Labels l from start → is_mark mark.CloseParen start ≡ false → is_mark mark.CloseParen from ≡ false
@@ -393,7 +415,7 @@ module _ (most : ℕ) (R : Reader) (opened : (g : Goal) (d : ℕ) (ts : Toks) �
       let o = good tight context d from mid sp (omega (arith, fit)) in let u = o.unled is in
       rw is_s (own_post (call_closing (till (exp_span f) (clo_span c)) f es c) tight context d from to refl refl (omega (arith, fit)) o.begins u.0 u.1
       (λ cl dot. opened_call f es tight context d from mid last o goods is lp sps close (omega (arith, fit)) (omega (arith, fit))
-        ∙ rw (at_mark mark.CloseParen last _ close, lb, goodk (d + 1) (after last) to spk (omega (arith, fit)), args_list es) refl))
+      ∙ rw (at_mark mark.CloseParen last _ close, lb, goodk (d + 1) (after last) to spk (omega (arith, fit)), args_list es) refl))
 
   own_call_closure : (s : Span) (f : Exp) (c : Clo) → Good f → GoodK c → Good (call_closure s f c)
   unfolding step calls_with closing_with
@@ -401,7 +423,7 @@ module _ (most : ℕ) (R : Reader) (opened : (g : Goal) (d : ℕ) (ts : Toks) �
       let o = good tight context d from mid sp (omega (arith, fit)) in let u = o.unled is in let k = closes_kind context mid lb in
       rw is_s (own_post (call_closure (till (exp_span f) (clo_span c)) f c) tight context d from to refl refl (omega (arith, fit)) o.begins u.0 u.1
       (λ cl dot. o.post is (λ y. absurd (clash _ y isnt)) (λ _. no_dot_at mid _ k refl) ∙ opened (calls_on context f) d mid
-        ∙ rw (not_opens context mid _ k refl, lb, lt-ltb (d + nest f) most (omega (arith, fit)), goodk (d + 1) mid to spk (omega (arith, fit))) refl))
+      ∙ rw (not_opens context mid _ k refl, lb, lt-ltb (d + nest f) most (omega (arith, fit)), goodk (d + 1) mid to spk (omega (arith, fit))) refl))
 
   own_member : (s : Span) (e : Exp) (n : Name) → Good e → Good (member s e n)
   unfolding step calls_with member_with
@@ -409,7 +431,7 @@ module _ (most : ℕ) (R : Reader) (opened : (g : Goal) (d : ℕ) (ts : Toks) �
       let o = good tight context d from mid sp (omega (arith, fit)) in let u = o.unled is in let k = c.0 in
       rw (is_s, is_to) (own_post (member (till (exp_span e) (here (after mid))) e n) tight context d from (after (after mid)) refl refl (omega (arith, fit)) o.begins u.0 u.1
       (λ cl dot. o.post is (λ _. not_closes context mid _ k refl) (λ y. absurd (clash _ y isnt)) ∙ opened (calls_on context e) d mid
-        ∙ rw (not_opens context mid _ k refl, not_closes context mid _ k refl, at_mark mark.Dot mid _ k, lt-ltb (d + nest e) most (omega (arith, fit)), c.1) refl))
+      ∙ rw (not_opens context mid _ k refl, not_closes context mid _ k refl, at_mark mark.Dot mid _ k, lt-ltb (d + nest e) most (omega (arith, fit)), c.1) refl))
 
   -- ---- statements
 
@@ -446,25 +468,45 @@ module _ (most : ℕ) (R : Reader) (opened : (g : Goal) (d : ℕ) (ts : Toks) �
 
   does_let : (s : Span) (k : Keyword) (n : Name) (t : Option Name) (e : Exp) → Good e → GoodS (let_in s k n t e)
   does_let s k n t e good d from to (kw, nm, mid, ty, eq, sp, is_s) br fit = record {
-      begins = keyword_no_clause from k kw; when = λ is. absurd cc;
-      reads = let_is k (Some n) d from (omega (arith, fit)) kw (name_binder (after from) n nm) ∙ bound_is k (Some n) t e d from mid to good ty eq sp br (omega (arith, fit)) ∙ rw is_s refl }
+    begins = keyword_no_clause from k kw;
+    when = λ is. absurd cc;
+    reads = let_is k (Some n) d from (omega (arith, fit)) kw (name_binder (after from) n nm) ∙ bound_is k (Some n) t e d from mid to good ty eq sp br (omega (arith, fit)) ∙ rw is_s refl;
+  }
 
   does_declare : (s : Span) (k : Keyword) (n t : Option Name) → GoodS (declare s k n t)
   unfolding bound_with
   does_declare s k n t d from to (kw, nm, ty, is_s) br fit = record {
-      begins = keyword_no_clause from k kw; when = λ is. absurd cc;
-      reads = let_is k n d from (omega (arith, fit)) kw nm ∙ rw (typed_is t (after (after from)) to ty br.annotates, br.assigns, is_s) refl }
+    begins = keyword_no_clause from k kw;
+    when = λ is. absurd cc;
+    reads = let_is k n d from (omega (arith, fit)) kw nm ∙ rw (typed_is t (after (after from)) to ty br.annotates, br.assigns, is_s) refl;
+  }
 
   ignore_by : (s : Span) (t : Option Name) (e : Exp) (d : ℕ) (from mid to : Toks) → Good e → Ignored t from mid → SpellsE e false Plain (after mid) to → Breaks to → d + 1 + nest e ≤ most → s ≡ till (here from) (exp_span e) → Does d (ignore s t e) from to
   unfolding statement_with simple_with ignore_with
   ignore_by s t e d from mid to good (inl (k, none, eq, at_)) sp br fit is_s =
       let spe : SpellsE e false Plain (after (after from)) to = rw at_ at sp in record {
-      begins = not_clause from _ k refl refl refl; when = λ is. absurd cc;
-      reads = rw (is_s, none, lt-ltb d most (omega (arith, fit)), at_keyword from _ k, at_word word.If from _ k, at_word word.While from _ k, at_word word.Repeat from _ k, at_word word.For from _ k, at_word word.Switch from _ k, at_mark mark.Underscore from _ k,
-        at_mark mark.Assign (after from) _ eq, expression_goal e Plain (d + 1) (after (after from)) to good spe br.stops fit) refl }
+        begins = not_clause from _ k refl refl refl;
+        when = λ is. absurd cc;
+        reads = rw (
+          is_s,
+          none,
+          lt-ltb d most (omega (arith, fit)),
+          at_keyword from _ k,
+          at_word word.If from _ k,
+          at_word word.While from _ k,
+          at_word word.Repeat from _ k,
+          at_word word.For from _ k,
+          at_word word.Switch from _ k,
+          at_mark mark.Underscore from _ k,
+          at_mark mark.Assign (after from) _ eq,
+          expression_goal e Plain (d + 1) (after (after from)) to good spe br.stops fit,
+        ) refl;
+      }
   ignore_by s t e d from mid to good (inr (w, kw, nm, ty, eq)) sp br fit is_s = record {
-      begins = keyword_no_clause from w kw; when = λ is. absurd cc;
-      reads = let_is w None d from (omega (arith, fit)) kw (mark_no_binder (after from) nm) ∙ bound_is w None t e d from mid to good ty eq sp br fit ∙ rw is_s refl }
+    begins = keyword_no_clause from w kw;
+    when = λ is. absurd cc;
+    reads = let_is w None d from (omega (arith, fit)) kw (mark_no_binder (after from) nm) ∙ bound_is w None t e d from mid to good ty eq sp br fit ∙ rw is_s refl;
+  }
 
   does_ignore : (s : Span) (t : Option Name) (e : Exp) → Good e → GoodS (ignore s t e)
   does_ignore s t e good d from to (mid, ig, sp, is_s) br fit = ignore_by s t e d from mid to good ig sp br (omega (arith, fit)) is_s
@@ -472,46 +514,114 @@ module _ (most : ℕ) (R : Reader) (opened : (g : Goal) (d : ℕ) (ts : Toks) �
   does_discard : (s : Span) → GoodS (discard_self s)
   unfolding statement_with simple_with discard_with
   does_discard s d from to (k, self, is_to, is_s) br fit = record {
-      begins = not_clause from _ k refl refl refl; when = λ is. absurd cc;
-      reads = rw (is_s, is_to, lt-ltb d most (omega (arith, fit)), at_keyword from _ k, at_word word.If from _ k, at_word word.While from _ k, at_word word.Repeat from _ k, at_word word.For from _ k, at_word word.Switch from _ k, at_mark mark.Underscore from _ k,
-        at_word word.Discard from _ k, at_word word.SelfValue (after from) _ self) refl }
+    begins = not_clause from _ k refl refl refl;
+    when = λ is. absurd cc;
+    reads = rw (
+      is_s,
+      is_to,
+      lt-ltb d most (omega (arith, fit)),
+      at_keyword from _ k,
+      at_word word.If from _ k,
+      at_word word.While from _ k,
+      at_word word.Repeat from _ k,
+      at_word word.For from _ k,
+      at_word word.Switch from _ k,
+      at_mark mark.Underscore from _ k,
+      at_word word.Discard from _ k,
+      at_word word.SelfValue (after from) _ self,
+    ) refl;
+  }
 
   does_while : (s : Span) (c : Exp) (b : Blk) → Good c → GoodB b → GoodS (loop_while s c b)
   unfolding statement_with while_with
   does_while s c b good goodb d from to (k, mid, sp, spb, is_s) br fit = record {
-      begins = not_clause from _ k refl refl refl; when = λ is. absurd cc;
-      reads = rw (is_s, lt-ltb d most (omega (arith, fit)), at_keyword from _ k, at_word word.If from _ k, at_word word.While from _ k,
-        condition_is c b (d + 1) (after from) mid to good sp spb (omega (arith, fit)), goodb (d + 1) mid to spb (omega (arith, fit))) refl }
+    begins = not_clause from _ k refl refl refl;
+    when = λ is. absurd cc;
+    reads = rw (
+      is_s,
+      lt-ltb d most (omega (arith, fit)),
+      at_keyword from _ k,
+      at_word word.If from _ k,
+      at_word word.While from _ k,
+      condition_is c b (d + 1) (after from) mid to good sp spb (omega (arith, fit)),
+      goodb (d + 1) mid to spb (omega (arith, fit)),
+    ) refl;
+  }
 
   does_repeat : (s : Span) (b : Blk) (c : Exp) → GoodB b → Good c → GoodS (loop_repeat s b c)
   unfolding statement_with repeat_with
   does_repeat s b c goodb good d from to (k, mid, spb, w, sp, is_s) br fit = record {
-      begins = not_clause from _ k refl refl refl; when = λ is. absurd cc;
-      reads = rw (is_s, lt-ltb d most (omega (arith, fit)), at_keyword from _ k, at_word word.If from _ k, at_word word.While from _ k, at_word word.Repeat from _ k,
-        goodb (d + 1) (after from) mid spb (omega (arith, fit)), at_word word.While mid _ w, expression_goal c Condition (d + 1) (after mid) to good sp (stops_condition 6 to br.stops) (omega (arith, fit))) refl }
+    begins = not_clause from _ k refl refl refl;
+    when = λ is. absurd cc;
+    reads = rw (
+      is_s,
+      lt-ltb d most (omega (arith, fit)),
+      at_keyword from _ k,
+      at_word word.If from _ k,
+      at_word word.While from _ k,
+      at_word word.Repeat from _ k,
+      goodb (d + 1) (after from) mid spb (omega (arith, fit)),
+      at_word word.While mid _ w,
+      expression_goal c Condition (d + 1) (after mid) to good sp (stops_condition 6 to br.stops) (omega (arith, fit)),
+    ) refl;
+  }
 
   does_for : (s : Span) (n : Option Name) (low : Exp) (o : RangeOperator) (at_ : Span) (high : Exp) (b : Blk) → Good low → Good high → GoodB b → GoodS (loop_for s n low o at_ high b)
   unfolding statement_with for_with lower_with upper_with
   does_for s n low o at_ high b goodl goodh goodb d from to (k, nm, within, mid, last, spl, op, is_at, sph, spb, is_s) br fit = record {
-      begins = not_clause from _ k refl refl refl; when = λ is. absurd cc;
-      reads = rw (is_s, is_at, lt-ltb d most (omega (arith, fit)), at_keyword from _ k, at_word word.If from _ k, at_word word.While from _ k, at_word word.Repeat from _ k, at_word word.For from _ k,
-        nm, at_word word.In (after (after from)) _ within, expression_goal low Condition (d + 1) (after (after (after from))) mid goodl spl (stops_range 6 Condition mid o (omega arith) op) (omega (arith, fit)), op,
-        condition_is high b (d + 1) (after mid) last to goodh sph spb (omega (arith, fit)), goodb (d + 1) last to spb (omega (arith, fit))) refl }
+    begins = not_clause from _ k refl refl refl;
+    when = λ is. absurd cc;
+    reads = rw (
+      is_s,
+      is_at,
+      lt-ltb d most (omega (arith, fit)),
+      at_keyword from _ k,
+      at_word word.If from _ k,
+      at_word word.While from _ k,
+      at_word word.Repeat from _ k,
+      at_word word.For from _ k,
+      nm,
+      at_word word.In (after (after from)) _ within,
+      expression_goal low Condition (d + 1) (after (after (after from))) mid goodl spl (stops_range 6 Condition mid o (omega arith) op) (omega (arith, fit)),
+      op,
+      condition_is high b (d + 1) (after mid) last to goodh sph spb (omega (arith, fit)),
+      goodb (d + 1) last to spb (omega (arith, fit)),
+    ) refl;
+  }
 
   does_if_then : (s : Span) (c : Exp) (b : Blk) → Good c → GoodB b → GoodS (if_then s c b)
   unfolding statement_with if_with else_with
   does_if_then s c b good goodb d from to (k, mid, sp, spb, is_s) br fit = record {
-      begins = not_clause from _ k refl refl refl; when = λ is. k;
-      reads = rw (is_s, lt-ltb d most (omega (arith, fit)), at_keyword from _ k, at_word word.If from _ k,
-        condition_is c b (d + 1) (after from) mid to good sp spb (omega (arith, fit)), goodb (d + 1) mid to spb (omega (arith, fit)), br.no_else) refl }
+    begins = not_clause from _ k refl refl refl;
+    when = λ is. k;
+    reads = rw (
+      is_s,
+      lt-ltb d most (omega (arith, fit)),
+      at_keyword from _ k,
+      at_word word.If from _ k,
+      condition_is c b (d + 1) (after from) mid to good sp spb (omega (arith, fit)),
+      goodb (d + 1) mid to spb (omega (arith, fit)),
+      br.no_else,
+    ) refl;
+  }
 
   does_if_else : (s : Span) (c : Exp) (b e : Blk) → Good c → GoodB b → GoodB e → GoodS (if_else s c b e)
   unfolding statement_with if_with else_with
   does_if_else s c b e good goodb goode d from to (k, mid, last, sp, spb, els, spe, is_s) br fit = record {
-      begins = not_clause from _ k refl refl refl; when = λ is. k;
-      reads = rw (is_s, lt-ltb d most (omega (arith, fit)), at_keyword from _ k, at_word word.If from _ k,
-        condition_is c b (d + 1) (after from) mid last good sp spb (omega (arith, fit)), goodb (d + 1) mid last spb (omega (arith, fit)), at_word word.Else last _ els,
-        at_word word.If (after last) _ (block_begins e (after last) to spe), goode (d + 1) (after last) to spe (omega (arith, fit))) refl }
+    begins = not_clause from _ k refl refl refl;
+    when = λ is. k;
+    reads = rw (
+      is_s,
+      lt-ltb d most (omega (arith, fit)),
+      at_keyword from _ k,
+      at_word word.If from _ k,
+      condition_is c b (d + 1) (after from) mid last good sp spb (omega (arith, fit)),
+      goodb (d + 1) mid last spb (omega (arith, fit)),
+      at_word word.Else last _ els,
+      at_word word.If (after last) _ (block_begins e (after last) to spe),
+      goode (d + 1) (after last) to spe (omega (arith, fit)),
+    ) refl;
+  }
 
   if_breaks : (s : Stm) (to : Toks) → is_if s ≡ true → Breaks to → After (is_return s) to
   if_breaks (if_then s c b) to is br = br
@@ -537,60 +647,136 @@ module _ (most : ℕ) (R : Reader) (opened : (g : Goal) (d : ℕ) (ts : Toks) �
   does_else_if s c b e good goodb goode d from to (k, mid, last, sp, spb, els, spe, is, is_s) br fit =
       let next = goode (d + 1) (after last) to spe (if_breaks e to is br) (omega (arith, fit)) in
       let again : R statement (d + 1) (after last) ≡ Ok (e, to) = opened statement (d + 1) (after last) ∙ next.reads in record {
-      begins = not_clause from _ k refl refl refl; when = λ is. k;
-      reads = rw (is_s, lt-ltb d most (omega (arith, fit)), at_keyword from _ k, at_word word.If from _ k,
-        condition_is c b (d + 1) (after from) mid last good sp spb (omega (arith, fit)), goodb (d + 1) mid last spb (omega (arith, fit)), at_word word.Else last _ els,
-        at_word word.If (after last) _ (next.when is), again) refl }
+        begins = not_clause from _ k refl refl refl;
+        when = λ is. k;
+        reads = rw (
+          is_s,
+          lt-ltb d most (omega (arith, fit)),
+          at_keyword from _ k,
+          at_word word.If from _ k,
+          condition_is c b (d + 1) (after from) mid last good sp spb (omega (arith, fit)),
+          goodb (d + 1) mid last spb (omega (arith, fit)),
+          at_word word.Else last _ els,
+          at_word word.If (after last) _ (next.when is),
+          again,
+        ) refl;
+      }
 
   does_leave : (s : Span) → GoodS (leave s)
   unfolding statement_with simple_with
   does_leave s d from to (k, is_to, is_s) br fit = record {
-      begins = not_clause from _ k refl refl refl; when = λ is. absurd cc;
-      reads = rw (is_s, is_to, lt-ltb d most (omega (arith, fit)), at_keyword from _ k, at_word word.If from _ k, at_word word.While from _ k, at_word word.Repeat from _ k, at_word word.For from _ k, at_word word.Switch from _ k, at_mark mark.Underscore from _ k,
-        at_word word.Discard from _ k, at_word word.Break from _ k) refl }
+    begins = not_clause from _ k refl refl refl;
+    when = λ is. absurd cc;
+    reads = rw (
+      is_s,
+      is_to,
+      lt-ltb d most (omega (arith, fit)),
+      at_keyword from _ k,
+      at_word word.If from _ k,
+      at_word word.While from _ k,
+      at_word word.Repeat from _ k,
+      at_word word.For from _ k,
+      at_word word.Switch from _ k,
+      at_mark mark.Underscore from _ k,
+      at_word word.Discard from _ k,
+      at_word word.Break from _ k,
+    ) refl;
+  }
 
   does_go_on : (s : Span) → GoodS (go_on s)
   unfolding statement_with simple_with
   does_go_on s d from to (k, is_to, is_s) br fit = record {
-      begins = not_clause from _ k refl refl refl; when = λ is. absurd cc;
-      reads = rw (is_s, is_to, lt-ltb d most (omega (arith, fit)), at_keyword from _ k, at_word word.If from _ k, at_word word.While from _ k, at_word word.Repeat from _ k, at_word word.For from _ k, at_word word.Switch from _ k, at_mark mark.Underscore from _ k,
-        at_word word.Discard from _ k, at_word word.Break from _ k, at_word word.Continue from _ k) refl }
+    begins = not_clause from _ k refl refl refl;
+    when = λ is. absurd cc;
+    reads = rw (
+      is_s,
+      is_to,
+      lt-ltb d most (omega (arith, fit)),
+      at_keyword from _ k,
+      at_word word.If from _ k,
+      at_word word.While from _ k,
+      at_word word.Repeat from _ k,
+      at_word word.For from _ k,
+      at_word word.Switch from _ k,
+      at_mark mark.Underscore from _ k,
+      at_word word.Discard from _ k,
+      at_word word.Break from _ k,
+      at_word word.Continue from _ k,
+    ) refl;
+  }
 
   return_is : (d : ℕ) (from : Toks) → d < most → kind_at from ≡ Some (kind.Word word.Return) → statement_with most R d from ≡ return_with R d from
   unfolding statement_with simple_with
-  return_is d from lt k = rw (lt-ltb d most lt, at_keyword from _ k, at_word word.If from _ k, at_word word.While from _ k, at_word word.Repeat from _ k, at_word word.For from _ k, at_word word.Switch from _ k, at_mark mark.Underscore from _ k,
-        at_word word.Discard from _ k, at_word word.Break from _ k, at_word word.Continue from _ k, at_word word.Return from _ k) refl
+  return_is d from lt k = rw (
+    lt-ltb d most lt,
+    at_keyword from _ k,
+    at_word word.If from _ k,
+    at_word word.While from _ k,
+    at_word word.Repeat from _ k,
+    at_word word.For from _ k,
+    at_word word.Switch from _ k,
+    at_mark mark.Underscore from _ k,
+    at_word word.Discard from _ k,
+    at_word word.Break from _ k,
+    at_word word.Continue from _ k,
+    at_word word.Return from _ k,
+  ) refl
 
   does_return : (s : Span) → GoodS (return_none s)
   unfolding return_with
   does_return s d from to (k, is_to, is_s) bare fit = record {
-      begins = not_clause from _ k refl refl refl; when = λ is. absurd cc;
-      reads = return_is d from (omega (arith, fit)) k ∙ rw (is_s, ← is_to, bare) refl }
+    begins = not_clause from _ k refl refl refl;
+    when = λ is. absurd cc;
+    reads = return_is d from (omega (arith, fit)) k ∙ rw (is_s, ← is_to, bare) refl;
+  }
 
   does_return_value : (s : Span) (e : Exp) → Good e → GoodS (return_value s e)
   unfolding return_with
   does_return_value s e good d from to (k, bare, sp, is_s) br fit = record {
-      begins = not_clause from _ k refl refl refl; when = λ is. absurd cc;
-      reads = return_is d from (omega (arith, fit)) k ∙ rw (is_s, bare, expression_goal e Plain (d + 1) (after from) to good sp br.stops (omega (arith, fit))) refl }
+    begins = not_clause from _ k refl refl refl;
+    when = λ is. absurd cc;
+    reads = return_is d from (omega (arith, fit)) k ∙ rw (is_s, bare, expression_goal e Plain (d + 1) (after from) to good sp br.stops (omega (arith, fit))) refl;
+  }
 
   -- a statement that begins as an expression
   evaluate_is : (d : ℕ) (from : Toks) → d < most → can_start (kind_at from) ≡ true → statement_with most R d from ≡ evaluate_with most R d from
   unfolding statement_with simple_with
-  evaluate_is d from lt st = rw (lt-ltb d most lt, no_keyword from st, no_word word.If from refl st, no_word word.While from refl st, no_word word.Repeat from refl st, no_word word.For from refl st, no_word word.Switch from refl st, no_mark mark.Underscore from refl st,
-        no_word word.Discard from refl st, no_word word.Break from refl st, no_word word.Continue from refl st, no_word word.Return from refl st) refl
+  evaluate_is d from lt st = rw (
+    lt-ltb d most lt,
+    no_keyword from st,
+    no_word word.If from refl st,
+    no_word word.While from refl st,
+    no_word word.Repeat from refl st,
+    no_word word.For from refl st,
+    no_word word.Switch from refl st,
+    no_mark mark.Underscore from refl st,
+    no_word word.Discard from refl st,
+    no_word word.Break from refl st,
+    no_word word.Continue from refl st,
+    no_word word.Return from refl st,
+  ) refl
 
   does_evaluate : (e : Exp) → Good e → GoodS (evaluate e)
   unfolding evaluate_with
   does_evaluate e good d from to sp br fit = let o = good false Plain (d + 1) from to sp (omega (arith, fit)) in record {
-      begins = start_no_clause from o.begins; when = λ is. absurd cc;
-      reads = evaluate_is d from (omega (arith, fit)) o.begins ∙ rw (expression_is e Plain (d + 1) from to o br.stops, br.assign) refl }
+    begins = start_no_clause from o.begins;
+    when = λ is. absurd cc;
+    reads = evaluate_is d from (omega (arith, fit)) o.begins ∙ rw (expression_is e Plain (d + 1) from to o br.stops, br.assign) refl;
+  }
 
   does_assign : (s : Span) (p : Path) (o : AssignOperator) (at_ : Span) (e : Exp) → Good (path p) → Good e → GoodS (assign s p o at_ e)
   unfolding evaluate_with assign_with
   does_assign s p o at_ e goodp good d from to (mid, spp, op, is_at, sp, is_s) br fit = let x = goodp false Plain (d + 1) from mid spp (omega (arith, fit)) in record {
-      begins = start_no_clause from x.begins; when = λ is. absurd cc;
-      reads = evaluate_is d from (omega (arith, fit)) x.begins ∙ rw (is_s, is_at, expression_is (path p) Plain (d + 1) from mid x (stops_assign 6 Plain mid o (omega arith) op), op,
-        expression_goal e Plain (d + 1) (after mid) to good sp br.stops (omega (arith, fit))) refl }
+    begins = start_no_clause from x.begins;
+    when = λ is. absurd cc;
+    reads = evaluate_is d from (omega (arith, fit)) x.begins ∙ rw (
+      is_s,
+      is_at,
+      expression_is (path p) Plain (d + 1) from mid x (stops_assign 6 Plain mid o (omega arith) op),
+      op,
+      expression_goal e Plain (d + 1) (after mid) to good sp br.stops (omega (arith, fit)),
+    ) refl;
+  }
 
   -- ---- lists of statements
 
@@ -610,7 +796,7 @@ module _ (most : ℕ) (R : Reader) (opened : (g : Goal) (d : ℕ) (ts : Toks) �
   list_more s ss good goods xs d from to (mid, next, sp, sep, sps) fit =
       let does = good d from mid sp (after_sep (is_return s) mid next sep) (omega (arith, fit)) in
       opened (statements_on xs) d from ∙ rw (no_brace from does.begins, separated_is s d from mid next does.reads sep, goods (xs ++ s ∷ []) d next to sps (omega (arith, fit)))
-        (ap (λ (ys : List Stm). Ok (ys, to)) (append_assoc xs (s ∷ []) (stms_in ss)))
+      (ap (λ (ys : List Stm). Ok (ys, to)) (append_assoc xs (s ∷ []) (stms_in ss)))
 
   block_is : (s : Span) (ss : Stms) → GoodL ss → GoodB (block s ss)
   unfolding step block_with
@@ -635,17 +821,19 @@ module _ (most : ℕ) (R : Reader) (opened : (g : Goal) (d : ℕ) (ts : Toks) �
   unfolding step clause_statements_with stms_in
   goes_one s good xs d from to (mid, sp, sep) end fit =
       let does = good d from mid sp (after_sep (is_return s) mid to sep) (omega (arith, fit)) in record {
-      begins = does.begins;
-      reads = opened (clause_on xs) d from ∙ rw (separated_is s d from mid to does.reads sep, end) refl }
+        begins = does.begins;
+        reads = opened (clause_on xs) d from ∙ rw (separated_is s d from mid to does.reads sep, end) refl;
+      }
 
   goes_more : (s s' : Stm) (ss : Stms) → GoodS s → GoodN (stm s' ss) → GoodN (stm s (stm s' ss))
   unfolding step clause_statements_with stms_in
   goes_more s s' ss good goods xs d from to (mid, next, sp, sep, sps) end fit =
       let does = good d from mid sp (after_sep (is_return s) mid next sep) (omega (arith, fit)) in
       let rest = goods (xs ++ s ∷ []) d next to sps end (omega (arith, fit)) in record {
-      begins = does.begins;
-      reads = opened (clause_on xs) d from ∙ rw (separated_is s d from mid next does.reads sep, rest.begins, rest.reads)
-        (ap (λ (ys : List Stm). Ok (ys, to)) (append_assoc xs (s ∷ []) (stms_in (stm s' ss)))) }
+        begins = does.begins;
+        reads = opened (clause_on xs) d from ∙ rw (separated_is s d from mid next does.reads sep, rest.begins, rest.reads)
+            (ap (λ (ys : List Stm). Ok (ys, to)) (append_assoc xs (s ∷ []) (stms_in (stm s' ss))));
+      }
 
   abbrev GoodH : When → Type 0
   GoodH h = (d : ℕ) (from to : Toks) → SpellsH h from to → kind_at to ≡ Some (kind.Mark mark.Colon) → d + nest_when h ≤ most → head_with R d from ≡ Ok (h, to)
@@ -664,8 +852,12 @@ module _ (most : ℕ) (R : Reader) (opened : (g : Goal) (d : ℕ) (ts : Toks) �
   head_where : (p : Pat) (e : Exp) → Good e → GoodH (case_where p e)
   unfolding head_with where_with pats_in
   head_where p e good d from to (k, mid, sp, w, spe) colon fit =
-      rw (at_word word.Case from _ k, pats_are (pat p no_pats) (after from) mid sp (at_mark mark.OpenParen mid _ w) (at_mark mark.Comma mid _ w), at_word word.Where mid _ w,
-        expression_goal e Plain d (after mid) to good spe (stops_at 6 Plain to _ (omega arith) colon refl) fit) refl
+      rw (
+        at_word word.Case from _ k,
+        pats_are (pat p no_pats) (after from) mid sp (at_mark mark.OpenParen mid _ w) (at_mark mark.Comma mid _ w),
+        at_word word.Where mid _ w,
+        expression_goal e Plain d (after mid) to good spe (stops_at 6 Plain to _ (omega arith) colon refl) fit,
+      ) refl
 
   head_default : GoodH default
   unfolding head_with
@@ -700,15 +892,29 @@ module _ (most : ℕ) (R : Reader) (opened : (g : Goal) (d : ℕ) (ts : Toks) �
   unfolding step clauses_with clauses_in
   clauses_more s h ss cs goodh goods goodc xs d from to (colon, next, sph, k, sps, is_s, spc) fit =
       opened (clauses_on xs) d from ∙ rw ((head_begins h from colon sph).1, clause_is s h ss d from colon next goodh goods sph k sps (clauses_begin cs next to spc) is_s (omega (arith, fit)) (omega (arith, fit)), goodc (xs ++ (s, h, ss) ∷ []) d next to spc (omega (arith, fit)))
-        (ap (λ (ys : List Cla). Ok (ys, to)) (append_assoc xs ((s, h, ss) ∷ []) (clauses_in cs)))
+      (ap (λ (ys : List Cla). Ok (ys, to)) (append_assoc xs ((s, h, ss) ∷ []) (clauses_in cs)))
 
   does_switch : (s : Span) (e : Exp) (cs : Clauses) → Good e → GoodC cs → GoodS (switch s e cs)
   unfolding statement_with switch_with
   does_switch s e cs good goodc d from to (k, mid, last, sp, lb, spc, is_to, is_s) br fit = record {
-      begins = not_clause from _ k refl refl refl; when = λ is. absurd cc;
-      reads = rw (is_s, is_to, lt-ltb d most (omega (arith, fit)), at_keyword from _ k, at_word word.If from _ k, at_word word.While from _ k, at_word word.Repeat from _ k, at_word word.For from _ k, at_word word.Switch from _ k,
-        expression_goal e Condition (d + 1) (after from) mid good sp (stops_brace 6 mid (omega arith) lb) (omega (arith, fit)), at_mark mark.OpenBrace mid _ lb,
-        goodc [] (d + 1) (after mid) last spc (omega (arith, fit)), clauses_list cs) refl }
+    begins = not_clause from _ k refl refl refl;
+    when = λ is. absurd cc;
+    reads = rw (
+      is_s,
+      is_to,
+      lt-ltb d most (omega (arith, fit)),
+      at_keyword from _ k,
+      at_word word.If from _ k,
+      at_word word.While from _ k,
+      at_word word.Repeat from _ k,
+      at_word word.For from _ k,
+      at_word word.Switch from _ k,
+      expression_goal e Condition (d + 1) (after from) mid good sp (stops_brace 6 mid (omega arith) lb) (omega (arith, fit)),
+      at_mark mark.OpenBrace mid _ lb,
+      goodc [] (d + 1) (after mid) last spc (omega (arith, fit)),
+      clauses_list cs,
+    ) refl;
+  }
 
   mutual
     own : (e : Exp) → Good e

@@ -81,14 +81,16 @@ clash false e f = absurd cc
 -- a word that begins no expression
 pub no_word : (a : Word) (ts : Toks) → word_starts a ≡ false → can_start (kind_at ts) ≡ true → is_word a ts ≡ false
 no_word a ts isnt st = elim (tells (is_word a ts)) [
-    inl y ↦ absurd (clash (word_starts a) (rw (word_kind a ts y) at st) isnt)
-  | inr y ↦ y ]
+  | inl y ↦ absurd (clash (word_starts a) (rw (word_kind a ts y) at st) isnt)
+  | inr y ↦ y
+]
 
 -- a mark that begins no expression
 pub no_mark : (a : Mark) (ts : Toks) → mark_starts a ≡ false → can_start (kind_at ts) ≡ true → is_mark a ts ≡ false
 no_mark a ts isnt st = elim (tells (is_mark a ts)) [
-    inl y ↦ absurd (clash (mark_starts a) (rw (mark_kind a ts y) at st) isnt)
-  | inr y ↦ y ]
+  | inl y ↦ absurd (clash (mark_starts a) (rw (mark_kind a ts y) at st) isnt)
+  | inr y ↦ y
+]
 
 word_no_keyword : (x : Word) → word_starts x ≡ true → keyword_in (Some (kind.Word x)) ≡ None
 word_no_keyword word.Let e = absurd cc
@@ -206,24 +208,33 @@ not_closes context ts x e isnt = rw (at_mark mark.OpenBrace ts x e, isnt) refl
 
 pub stops_at : (n : ℕ) (context : Context) (ts : Toks) (x : Option Kind) → n < 9 → kind_at ts ≡ x → quiet x ≡ true → Stops n context ts
 stops_at n context ts x lt e q = let s = quiet_is x q in record {
-  opens = not_opens context ts x e s.paren; closes = not_closes context ts x e s.brace;
-  dot = at_mark mark.Dot ts x e ∙ s.dot; question = λ le. at_mark mark.Question ts x e ∙ s.question;
-  above = rw (no_operator ts x e s.operator) lt }
+  opens = not_opens context ts x e s.paren;
+  closes = not_closes context ts x e s.brace;
+  dot = at_mark mark.Dot ts x e ∙ s.dot;
+  question = λ le. at_mark mark.Question ts x e ∙ s.question;
+  above = rw (no_operator ts x e s.operator) lt;
+}
 
 -- before `{`, in a condition
 pub stops_brace : (n : ℕ) (ts : Toks) → n < 9 → kind_at ts ≡ Some (kind.Mark mark.OpenBrace) → Stops n Condition ts
 unfolding closes
 stops_brace n ts lt e = record {
-  opens = not_opens Condition ts _ e refl; closes = and_false _ _ refl;
-  dot = at_mark mark.Dot ts _ e; question = λ le. at_mark mark.Question ts _ e;
-  above = rw (no_operator ts _ e refl) lt }
+  opens = not_opens Condition ts _ e refl;
+  closes = and_false _ _ refl;
+  dot = at_mark mark.Dot ts _ e;
+  question = λ le. at_mark mark.Question ts _ e;
+  above = rw (no_operator ts _ e refl) lt;
+}
 
 -- before `?`
 pub stops_question : (n : ℕ) (context : Context) (ts : Toks) → n < 6 → kind_at ts ≡ Some (kind.Mark mark.Question) → Stops n context ts
 stops_question n context ts lt e = record {
-  opens = not_opens context ts _ e refl; closes = not_closes context ts _ e refl;
-  dot = at_mark mark.Dot ts _ e; question = λ le. absurd (omega (arith, lt, le));
-  above = rw (no_operator ts _ e refl) (omega (arith, lt)) }
+  opens = not_opens context ts _ e refl;
+  closes = not_closes context ts _ e refl;
+  dot = at_mark mark.Dot ts _ e;
+  question = λ le. absurd (omega (arith, lt, le));
+  above = rw (no_operator ts _ e refl) (omega (arith, lt));
+}
 
 record Operating (o : BinaryOperator) : Type 0 where
   pub paren : mark_is mark.OpenParen (Some (kind.Mark (operator_mark o))) ≡ false
@@ -253,9 +264,12 @@ operating operator.TimesWrapping = record { paren = refl; brace = refl; dot = re
 -- before a looser operator
 pub stops_operator : (n : ℕ) (context : Context) (ts : Toks) (o : BinaryOperator) → operator_at ts ≡ Some o → n < level o → Stops n context ts
 stops_operator n context ts o e lt = let k = operator_kind ts o e in let s = operating o in record {
-  opens = not_opens context ts _ k s.paren; closes = not_closes context ts _ k s.brace;
-  dot = at_mark mark.Dot ts _ k ∙ s.dot; question = λ le. at_mark mark.Question ts _ k ∙ s.question;
-  above = rw e lt }
+  opens = not_opens context ts _ k s.paren;
+  closes = not_closes context ts _ k s.brace;
+  dot = at_mark mark.Dot ts _ k ∙ s.dot;
+  question = λ le. at_mark mark.Question ts _ k ∙ s.question;
+  above = rw e lt;
+}
 
 quiet_range : (o : RangeOperator) → quiet (Some (kind.Mark (range_mark o))) ≡ true
 unfolding range_mark
@@ -308,8 +322,12 @@ breaks_at : (ts : Toks) (x : Option Kind) → kind_at ts ≡ x → quiet x ≡ t
 unfolding assigns annotates assign_at
 breaks_at ts x e q eq colon assign other bare = record {
   stops = stops_at 6 Plain ts x (omega arith) e q;
-  assigns = rw (at_mark mark.Assign ts x e, eq) refl; annotates = rw (at_mark mark.Colon ts x e, colon) refl;
-  assign = line_none (is_new_line ts) (assign_in (kind_at ts)) (rw e assign); no_else = at_word word.Else ts x e ∙ other; bare = bare }
+  assigns = rw (at_mark mark.Assign ts x e, eq) refl;
+  annotates = rw (at_mark mark.Colon ts x e, colon) refl;
+  assign = line_none (is_new_line ts) (assign_in (kind_at ts)) (rw e assign);
+  no_else = at_word word.Else ts x e ∙ other;
+  bare = bare;
+}
 
 bare_line : (a b c d : Bool) → c ≡ true → (a || b || c || d) ≡ true
 bare_line true b c d e = refl
@@ -352,7 +370,8 @@ breaks_line ts line over = let l = line_of ts over in record {
   annotates = rw line (and_false _ _ refl);
   assign = rw line refl;
   no_else = l.other;
-  bare = bare_line (is_over ts) (is_mark mark.CloseBrace ts) (is_new_line ts) (is_mark mark.Semicolon ts) line }
+  bare = bare_line (is_over ts) (is_mark mark.CloseBrace ts) (is_new_line ts) (is_mark mark.Semicolon ts) line;
+}
 
 breaks_semicolon : (ts : Toks) → kind_at ts ≡ Some (kind.Mark mark.Semicolon) → Breaks ts
 unfolding is_bare is_mark
@@ -380,10 +399,12 @@ and_three_true true true false e = absurd cc
 breaks_ends : (ts : Toks) → ends ts ≡ true → Breaks ts
 unfolding ends
 breaks_ends ts e = elim (three (is_over ts) (is_mark mark.CloseBrace ts) (is_new_line ts && not (goes_on ts) && not (is_mark mark.Semicolon ts)) e) [
-    inl over ↦ breaks_over ts (is_none_is _ over)
+  | inl over ↦ breaks_over ts (is_none_is _ over)
   | inr more ↦ elim more [
-      inl brace ↦ breaks_brace ts (mark_kind mark.CloseBrace ts brace)
-    | inr line ↦ (let a = and_three_true (is_new_line ts) (not (goes_on ts)) (not (is_mark mark.Semicolon ts)) line in breaks_line ts a.0 (not_true _ a.1)) ] ]
+    | inl brace ↦ breaks_brace ts (mark_kind mark.CloseBrace ts brace)
+    | inr line ↦ (let a = and_three_true (is_new_line ts) (not (goes_on ts)) (not (is_mark mark.Semicolon ts)) line in breaks_line ts a.0 (not_true _ a.1))
+  ]
+]
 
 -- what is known where a statement ends, a bare `return` or another
 abbrev pub After : Bool → Toks → Type 0
@@ -398,8 +419,9 @@ after_sep false mid next (inr (en, isnt, is)) = breaks_ends mid en
 
 pub no_semicolon : (ts : Toks) → (kind_at ts ≡ Some (kind.Mark mark.Semicolon) → ⊥) → is_mark mark.Semicolon ts ≡ false
 no_semicolon ts isnt = elim (tells (is_mark mark.Semicolon ts)) [
-    inl y ↦ absurd (isnt (mark_kind mark.Semicolon ts y))
-  | inr y ↦ y ]
+  | inl y ↦ absurd (isnt (mark_kind mark.Semicolon ts y))
+  | inr y ↦ y
+]
 
 -- ---- tests at a token of a known kind
 
@@ -454,11 +476,13 @@ sep_is bare mid next (inr (en, isnt, is)) = rw (is, no_semicolon mid isnt, en) r
 pub sep_sound : (bare : Bool) (ts next : Toks) → sep_at bare ts ≡ Ok next → Sep bare ts next
 unfolding sep_at
 sep_sound bare ts next e = elim (chosen (is_mark mark.Semicolon ts) _ _ _ e) [
-    inl y ↦ inl (mark_kind mark.Semicolon ts y.0, sym (ok_is (after ts) next y.1))
-  | inr y ↦ (let q = kept (ends_after bare ts) _ _ next y.1 in inr (q.0, λ semi. clash _ (at_mark mark.Semicolon ts _ semi) y.0, sym (ok_is ts next q.1))) ]
+  | inl y ↦ inl (mark_kind mark.Semicolon ts y.0, sym (ok_is (after ts) next y.1))
+  | inr y ↦ (let q = kept (ends_after bare ts) _ _ next y.1 in inr (q.0, λ semi. clash _ (at_mark mark.Semicolon ts _ semi) y.0, sym (ok_is ts next q.1)))
+]
 
 pub sep_no_depth : (bare : Bool) (ts : Toks) (n : ℕ) → sep_at bare ts ≡ Err (Depth n) → ⊥
 unfolding sep_at
 sep_no_depth bare ts n e = elim (chosen (is_mark mark.Semicolon ts) _ _ _ e) [
-    inl y ↦ no_ok _ n y.1
-  | inr y ↦ (let q = syn (ends_after bare ts) (done ts) _ n y.1 in no_ok _ n q.1) ]
+  | inl y ↦ no_ok _ n y.1
+  | inr y ↦ (let q = syn (ends_after bare ts) (done ts) _ n y.1 in no_ok _ n q.1)
+]

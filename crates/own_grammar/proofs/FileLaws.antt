@@ -35,20 +35,22 @@ noncopyable_is true from brace (colon, tilde, named, is) k = rw (at_mark mark.Co
 noncopyable_sound : (ts : Toks) (x : Bool × Toks) → noncopyable_with ts ≡ Ok x → Noncopyable x.0 ts x.1
 unfolding noncopyable_with
 noncopyable_sound ts x e = elim (chosen (is_mark mark.Colon ts) (wanted (is_mark mark.Tilde (after ts)) (after ts) (wanted (is_named (codes "Copyable") (after (after ts))) (after (after ts)) (marked ts))) (done (false, ts)) _ e) [
-    inl y ↦ (
+  | inl y ↦ (
       let a = wanted_ok (is_mark mark.Tilde (after ts)) (after ts) (wanted (is_named (codes "Copyable") (after (after ts))) (after (after ts)) (marked ts)) x y.1 in
       let b = wanted_ok (is_named (codes "Copyable") (after (after ts))) (after (after ts)) (marked ts) x a.1 in
       rw (← ok_is (true, after (after (after ts))) x b.1) (mark_kind mark.Colon ts y.0, mark_kind mark.Tilde (after ts) a.0, b.0, refl))
-  | inr y ↦ rw (← ok_is (false, ts) x y.1) refl ]
+  | inr y ↦ rw (← ok_is (false, ts) x y.1) refl
+]
 
 noncopyable_shallow : (ts : Toks) (n : ℕ) → noncopyable_with ts ≡ Err (Depth n) → ⊥
 unfolding noncopyable_with
 noncopyable_shallow ts n e = elim (chosen (is_mark mark.Colon ts) (wanted (is_mark mark.Tilde (after ts)) (after ts) (wanted (is_named (codes "Copyable") (after (after ts))) (after (after ts)) (marked ts))) (done (false, ts)) _ e) [
-    inl y ↦ (
+  | inl y ↦ (
       let a = wanted_deep (is_mark mark.Tilde (after ts)) (after ts) (wanted (is_named (codes "Copyable") (after (after ts))) (after (after ts)) (marked ts)) n y.1 in
       let b = wanted_deep (is_named (codes "Copyable") (after (after ts))) (after (after ts)) (marked ts) n a.1 in
       no_ok _ n b.1)
-  | inr y ↦ no_ok _ n y.1 ]
+  | inr y ↦ no_ok _ n y.1
+]
 
 noncopyable_le : (b : Bool) (from brace : Toks) → Noncopyable b from brace → length brace ≤ length from
 noncopyable_le false from brace is = rw is (omega arith)
@@ -61,7 +63,6 @@ module _ (most : ℕ) (S : Member → Toks → Toks → Type 0) (item : Toks →
     (snd : (ts : Toks) (x : Member × Toks) → item ts ≡ Ok x → S x.0 ts x.1 × (nest_member x.0 ≤ most))
     (short : (m : Member) (from to : Toks) → S m from to → length to < length from)
     (begins : (m : Member) (from to : Toks) → S m from to → (w : Word) × (kind_at from ≡ Some (kind.Word w))) where
-
   semicolon_follows : (ts : Toks) → kind_at ts ≡ Some (kind.Mark mark.Semicolon) → Follows ts
   semicolon_follows ts k = (at_mark mark.OpenParen ts _ k, at_mark mark.Comma ts _ k)
 
@@ -72,7 +73,7 @@ module _ (most : ℕ) (S : Member → Toks → Toks → Type 0) (item : Toks →
   unfolding members_with
   members_told ms from last lb sps rb =
       told_same most (greatest nest_member ms) _ (separated_on (is_mark mark.CloseBrace) item [] (after from)) ms last (wanted_is (is_mark mark.OpenBrace from) from _ (at_mark mark.OpenBrace from _ lb))
-        (separated_complete most S (is_mark mark.CloseBrace) item nest_member Follows told snd short semicolon_follows part_follows ms [] (after from) last sps (at_mark mark.OpenParen last _ rb, at_mark mark.Comma last _ rb) (at_mark mark.CloseBrace last _ rb))
+      (separated_complete most S (is_mark mark.CloseBrace) item nest_member Follows told snd short semicolon_follows part_follows ms [] (after from) last sps (at_mark mark.OpenParen last _ rb, at_mark mark.Comma last _ rb) (at_mark mark.CloseBrace last _ rb))
 
   named_reads : (make : Span → Name → Bool → List Member → Decl) (n : Name) (b : Bool) (from brace : Toks) → name_at (after from) ≡ Some n → Noncopyable b (after (after from)) brace → kind_at brace ≡ Some (kind.Mark mark.OpenBrace)
       → named_with item make from ≡ (members_with item brace >>= λ ms. done (make (till (here from) (here ms.1)) n b ms.0, after ms.1))
@@ -82,7 +83,7 @@ module _ (most : ℕ) (S : Member → Toks → Toks → Type 0) (item : Toks →
   named_told : (make : Span → Name → Bool → List Member → Decl) (w : Word) (s : Span) (n : Name) (b : Bool) (ms : List Member) (from to : Toks) → SpellsMembers w S s n b ms from to → Told most (greatest nest_member ms) (named_with item make from) (make s n b ms) to
   named_told make w s n b ms from to (brace, last, k, nm, nc, lb, sps, rb, is, is_s) =
       told_same most (greatest nest_member ms) (named_with item make from) _ (make s n b ms) to (named_reads make n b from brace nm nc lb)
-        (told_then most (greatest nest_member ms) (members_with item brace) (λ ms. done (make (till (here from) (here ms.1)) n b ms.0, after ms.1)) ms (make s n b ms) last to (members_told ms brace last lb sps rb) (rw (is_s, is) refl))
+      (told_then most (greatest nest_member ms) (members_with item brace) (λ ms. done (make (till (here from) (here ms.1)) n b ms.0, after ms.1)) ms (make s n b ms) last to (members_told ms brace last lb sps rb) (rw (is_s, is) refl))
 
   abbrev MembersRead : List Member → Toks → Toks → Type 0
   MembersRead ms from last = (kind_at from ≡ Some (kind.Mark mark.OpenBrace)) × Separated S ms (after from) last × (kind_at last ≡ Some (kind.Mark mark.CloseBrace)) × (greatest nest_member ms ≤ most)
@@ -105,7 +106,7 @@ module _ (most : ℕ) (S : Member → Toks → Toks → Type 0) (item : Toks →
       let m = bind_ok (members_with item b.0.1) (λ ms. done (make (till (here ts) (here ms.1)) n.0 b.0.0 ms.0, after ms.1)) x b.2 in
       let s = members_sound b.0.1 m.0 m.1 in
       rw (← ok_is (make (till (here ts) (here m.0.1)) n.0 b.0.0 m.0.0, after m.0.1) x m.2)
-        (till (here ts) (here m.0.1), n.0, b.0.0, m.0.0, refl, (b.0.1, m.0.1, k, n.1, noncopyable_sound (after (after ts)) b.0 b.1, s.0, s.1, s.2, refl, refl), s.3)
+      (till (here ts) (here m.0.1), n.0, b.0.0, m.0.0, refl, (b.0.1, m.0.1, k, n.1, noncopyable_sound (after (after ts)) b.0 b.1, s.0, s.1, s.2, refl, refl), s.3)
 
   abbrev NamedDeep : Toks → ℕ → Type 0
   NamedDeep ts n = (name : Name) × (b : Bool) × (ms : List Member) × (brace : Toks) × (mid : Toks) × (name_at (after ts) ≡ Some name) × Noncopyable b (after (after ts)) brace × (kind_at brace ≡ Some (kind.Mark mark.OpenBrace)) × Separated S ms (after brace) mid × (item mid ≡ Err (Depth n))
@@ -115,17 +116,18 @@ module _ (most : ℕ) (S : Member → Toks → Toks → Type 0) (item : Toks →
   named_deep make ts n e =
       let m = some_syn (name_at (after ts)) (λ m. noncopyable_with (after (after ts)) >>= λ b. members_with item b.1 >>= λ ms. done (make (till (here ts) (here ms.1)) m b.0 ms.0, after ms.1)) (length (after ts)) n e in
       elim (bind_err (noncopyable_with (after (after ts))) (λ b. members_with item b.1 >>= λ ms. done (make (till (here ts) (here ms.1)) m.0 b.0 ms.0, after ms.1)) _ m.2) [
-        inl y ↦ absurd (noncopyable_shallow (after (after ts)) n y)
-      | inr b ↦ (
-          let g = bind_deep (members_with item b.0.1) (λ ms. (make (till (here ts) (here ms.1)) m.0 b.0.0 ms.0, after ms.1)) n b.2 in
-          let q = wanted_deep (is_mark mark.OpenBrace b.0.1) b.0.1 (separated_on (is_mark mark.CloseBrace) item [] (after b.0.1)) n g in
-          let d = separated_deep most S (is_mark mark.CloseBrace) item nest_member Follows told snd short semicolon_follows part_follows [] (after b.0.1) n q.1 in
-          (m.0, b.0.0, d.0, b.0.1, d.1, m.1, noncopyable_sound (after (after ts)) b.0 b.1, mark_kind mark.OpenBrace b.0.1 q.0, d.2, d.3)) ]
+        | inl y ↦ absurd (noncopyable_shallow (after (after ts)) n y)
+        | inr b ↦ (
+            let g = bind_deep (members_with item b.0.1) (λ ms. (make (till (here ts) (here ms.1)) m.0 b.0.0 ms.0, after ms.1)) n b.2 in
+            let q = wanted_deep (is_mark mark.OpenBrace b.0.1) b.0.1 (separated_on (is_mark mark.CloseBrace) item [] (after b.0.1)) n g in
+            let d = separated_deep most S (is_mark mark.CloseBrace) item nest_member Follows told snd short semicolon_follows part_follows [] (after b.0.1) n q.1 in
+            (m.0, b.0.0, d.0, b.0.1, d.1, m.1, noncopyable_sound (after (after ts)) b.0 b.1, mark_kind mark.OpenBrace b.0.1 q.0, d.2, d.3))
+      ]
 
   named_short : (w : Word) (s : Span) (n : Name) (b : Bool) (ms : List Member) (from to : Toks) → SpellsMembers w S s n b ms from to → length to < length from
   named_short w s n b ms from to (brace, last, k, nm, nc, lb, sps, rb, is, is_s) =
       rw is (let a = after_short from _ k in let c = after_le (after from) in let d = noncopyable_le b (after (after from)) brace nc in let e = after_le brace in
-        let f = separated_le most S (is_mark mark.CloseBrace) item nest_member Follows told snd short semicolon_follows part_follows ms (after brace) last sps in let g = after_le last in omega arith)
+      let f = separated_le most S (is_mark mark.CloseBrace) item nest_member Follows told snd short semicolon_follows part_follows ms (after brace) last sps in let g = after_le last in omega arith)
 
 -- ---- declarations
 
@@ -133,7 +135,6 @@ abbrev Free : Toks → Type 0
 Free ts = Unit {0}
 
 module _ (most : ℕ) where
-
   struct_told : (m : Member) (from to : Toks) → SpellsStructMember m from to → Follows to → Told most (nest_member m) (struct_member_with most from) m to
   struct_told m from to sp f = struct_member_told most m from to sp
 
@@ -149,15 +150,17 @@ module _ (most : ℕ) where
   declaration_sound : (ts : Toks) (x : Decl × Toks) → declaration_with most ts ≡ Ok x → SpellsDeclaration x.0 ts x.1 × (nest_declaration x.0 ≤ most)
   unfolding declaration_with
   declaration_sound ts x e = elim (chosen (is_word word.Struct ts) (named_with (struct_member_with most) struct_of ts) (cond (is_word word.Enum ts) (named_with (enum_member_with most) enum_of ts) (function_with most ts >>= λ f. done (function f.0, f.1))) _ e) [
-      inl y ↦ (let s = named_sound most SpellsStructMember (struct_member_with most) struct_told (struct_member_sound most) (struct_member_short most) (struct_member_word most) struct_of word.Struct ts x (word_kind word.Struct ts y.0) y.1 in
+    | inl y ↦ (let s = named_sound most SpellsStructMember (struct_member_with most) struct_told (struct_member_sound most) (struct_member_short most) (struct_member_word most) struct_of word.Struct ts x (word_kind word.Struct ts y.0) y.1 in
         rw s.4 (s.5, s.6))
     | inr y ↦ elim (chosen (is_word word.Enum ts) (named_with (enum_member_with most) enum_of ts) (function_with most ts >>= λ f. done (function f.0, f.1)) _ y.1) [
-        inl z ↦ (let s = named_sound most SpellsEnumMember (enum_member_with most) (enum_member_told most) (enum_member_sound most) (enum_member_short most) (enum_member_word most) enum_of word.Enum ts x (word_kind word.Enum ts z.0) z.1 in
+      | inl z ↦ (let s = named_sound most SpellsEnumMember (enum_member_with most) (enum_member_told most) (enum_member_sound most) (enum_member_short most) (enum_member_word most) enum_of word.Enum ts x (word_kind word.Enum ts z.0) z.1 in
           rw s.4 (s.5, s.6))
       | inr z ↦ (
           let f = bind_ok (function_with most ts) (λ f. done (function f.0, f.1)) x z.1 in
           let s = function_sound most ts f.0 f.1 in
-          rw (← ok_is (function f.0.0, f.0.1) x f.2) (s.0, s.1)) ] ]
+          rw (← ok_is (function f.0.0, f.0.1) x f.2) (s.0, s.1))
+    ]
+  ]
 
   abbrev DeepD : Toks → ℕ → Type 0
   DeepD ts n = (p : PDecl) × (at_ : Toks) × (length at_ ≡ n) × PartDeclaration p ts at_ × (most < nest_pd p)
@@ -165,16 +168,18 @@ module _ (most : ℕ) where
   declaration_deep : (ts : Toks) (n : ℕ) → declaration_with most ts ≡ Err (Depth n) → DeepD ts n
   unfolding declaration_with
   declaration_deep ts n e = elim (chosen (is_word word.Struct ts) (named_with (struct_member_with most) struct_of ts) (cond (is_word word.Enum ts) (named_with (enum_member_with most) enum_of ts) (function_with most ts >>= λ f. done (function f.0, f.1))) _ e) [
-      inl y ↦ (
+    | inl y ↦ (
         let s = named_deep most SpellsStructMember (struct_member_with most) struct_told (struct_member_sound most) (struct_member_short most) (struct_member_word most) struct_of ts n y.1 in
         let d = struct_member_deep most s.4 n s.9 in
         (p_struct s.0 s.1 s.2 d.0, d.1, d.2, (s.3, s.4, word_kind word.Struct ts y.0, s.5, s.6, s.7, s.8, d.3), d.4))
     | inr y ↦ elim (chosen (is_word word.Enum ts) (named_with (enum_member_with most) enum_of ts) (function_with most ts >>= λ f. done (function f.0, f.1)) _ y.1) [
-        inl z ↦ (
+      | inl z ↦ (
           let s = named_deep most SpellsEnumMember (enum_member_with most) (enum_member_told most) (enum_member_sound most) (enum_member_short most) (enum_member_word most) enum_of ts n z.1 in
           let d = enum_member_deep most s.4 n s.9 in
           (p_enum s.0 s.1 s.2 d.0, d.1, d.2, (s.3, s.4, word_kind word.Enum ts z.0, s.5, s.6, s.7, s.8, d.3), d.4))
-      | inr z ↦ (let d = function_deep most ts n (bind_deep (function_with most ts) (λ f. (function f.0, f.1)) n z.1) in (p_function d.0, d.1, d.2, d.3, d.4)) ] ]
+      | inr z ↦ (let d = function_deep most ts n (bind_deep (function_with most ts) (λ f. (function f.0, f.1)) n z.1) in (p_function d.0, d.1, d.2, d.3, d.4))
+    ]
+  ]
 
   declaration_short : (x : Decl) (from to : Toks) → SpellsDeclaration x from to → length to < length from
   declaration_short (struct_of s n b ms) from to sp = named_short most SpellsStructMember (struct_member_with most) struct_told (struct_member_sound most) (struct_member_short most) (struct_member_word most) word.Struct s n b ms from to sp
@@ -219,20 +224,22 @@ module _ (most : ℕ) where
   end_sound : (ts : Toks) (u : Unit {0}) → end_with ts ≡ Ok u → Ended ts
   unfolding end_with
   end_sound ts u e = elim (chosen (is_over ts) (done tt) (cond (is_mark mark.Semicolon ts) (cond (is_over (after ts)) (done tt) (Err (Syntax (length (after ts))))) (Err (Syntax (length ts)))) _ e) [
-      inl y ↦ inl (over_kind ts y.0)
+    | inl y ↦ inl (over_kind ts y.0)
     | inr y ↦ (
         let a = kept (is_mark mark.Semicolon ts) (cond (is_over (after ts)) (done tt) (Err (Syntax (length (after ts))))) (Syntax (length ts)) u y.1 in
         let b = kept (is_over (after ts)) (done tt) (Syntax (length (after ts))) u a.1 in
-        inr (mark_kind mark.Semicolon ts a.0, over_kind (after ts) b.0)) ]
+        inr (mark_kind mark.Semicolon ts a.0, over_kind (after ts) b.0))
+  ]
 
   end_shallow : (ts : Toks) (n : ℕ) → end_with ts ≡ Err (Depth n) → ⊥
   unfolding end_with
   end_shallow ts n e = elim (chosen (is_over ts) (done tt) (cond (is_mark mark.Semicolon ts) (cond (is_over (after ts)) (done tt) (Err (Syntax (length (after ts))))) (Err (Syntax (length ts)))) _ e) [
-      inl y ↦ no_ok _ n y.1
+    | inl y ↦ no_ok _ n y.1
     | inr y ↦ (
         let a = syn (is_mark mark.Semicolon ts) (cond (is_over (after ts)) (done tt) (Err (Syntax (length (after ts))))) (length ts) n y.1 in
         let b = syn (is_over (after ts)) (done tt) (length (after ts)) n a.1 in
-        no_ok _ n b.1) ]
+        no_ok _ n b.1)
+  ]
 
   main_reads : (s : Span) (from : Toks) → SpellsMain s from → main_with from ≡ Ok s
   unfolding main_with
@@ -295,11 +302,12 @@ module _ (most : ℕ) where
   pub file_depth : (from : Toks) (n : ℕ) → read_file most from ≡ Err (Depth n) → (p : PFile) × (at_ : Toks) × (length at_ ≡ n) × Part p from at_ × (most < nest_pf p)
   unfolding read_file
   file_depth from n e = elim (bind_err (separated_on is_main (declaration_with most) [] from) (λ ds. main_with ds.1 >>= λ s. done (filed from ds.0 s)) _ e) [
-      inl y ↦ (
+    | inl y ↦ (
         let s = separated_deep most SpellsDeclaration is_main (declaration_with most) nest_declaration Free declaration_told declaration_sound declaration_short (λ ts k. tt) part_free [] from n y in
         let d = declaration_deep s.1 n s.3 in
         (broken s.0 d.0, d.1, d.2, (s.1, s.2, d.3), d.4))
-    | inr d ↦ absurd (main_shallow d.0.1 n (bind_deep (main_with d.0.1) (λ s. filed from d.0.0 s) n d.2)) ]
+    | inr d ↦ absurd (main_shallow d.0.1 n (bind_deep (main_with d.0.1) (λ s. filed from d.0.0 s) n d.2))
+  ]
     where
       broken : List Decl → PDecl → PFile
       broken ds p = record { declarations = ds; last = p }
@@ -307,14 +315,16 @@ module _ (most : ℕ) where
 -- A file that is spelled within the limit is read.
 pub file_again : (most : ℕ) (f : File) (from : Toks) → Spells f from → nest_file f ≤ most → read_file most from ≡ Ok f
 file_again most f from sp fit = elim (file_told most f from sp) [
-    inl y ↦ y.1
-  | inr y ↦ absurd (omega (arith, fit, y.0)) ]
+  | inl y ↦ y.1
+  | inr y ↦ absurd (omega (arith, fit, y.0))
+]
 
 -- Where one is spelled that is nested too deep, reading says so.
 pub file_deep : (most : ℕ) (f : File) (from : Toks) → Spells f from → most < nest_file f → (n : ℕ) × (read_file most from ≡ Err (Depth n))
 file_deep most f from sp lt = elim (file_told most f from sp) [
-    inl y ↦ absurd (omega (arith, lt, y.0))
-  | inr y ↦ y.1 ]
+  | inl y ↦ absurd (omega (arith, lt, y.0))
+  | inr y ↦ y.1
+]
 
 file_both : (f g : File) (r : Result File Fault) → r ≡ Ok f → r ≡ Ok g → f ≡ g
 file_both f g r d e = cc
@@ -334,5 +344,6 @@ syntax_no_ok r m f d e = absurd cc
 -- Syntax comes only where no tree spells the tokens.
 pub file_syntax : (most n : ℕ) (from : Toks) → read_file most from ≡ Err (Syntax n) → (f : File) → Spells f from → ⊥
 file_syntax most n from e f sp = elim (file_told most f from sp) [
-    inl y ↦ syntax_no_ok (read_file most from) n f e y.1
-  | inr y ↦ syntax_no_depth (read_file most from) n y.1.0 e y.1.1 ]
+  | inl y ↦ syntax_no_ok (read_file most from) n f e y.1
+  | inr y ↦ syntax_no_depth (read_file most from) n y.1.0 e y.1.1
+]

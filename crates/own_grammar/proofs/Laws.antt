@@ -35,6 +35,7 @@ block_deep most d b from to sp lt =
   where
     again : read (d + nest_blk b) body d from ≡ Ok (b, to)
     again = block_again (d + nest_blk b) d b from to sp (omega arith)
+
     by : (r : Read Blk) → read most body d from ≡ r → Near (Unit {0}) (read most body d from) (read (d + nest_blk b) body d from) → (n : ℕ) × (read most body d from ≡ Err (Depth n))
     by r e (deep l n q) = (n, q)
     by r e (same q) = absurd (let f = block_found most d from (b, to) (q ∙ again) in omega (arith, f.1, lt))

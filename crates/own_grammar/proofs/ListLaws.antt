@@ -21,7 +21,6 @@ module _ {A : Type 0} (S : A → Toks → Toks → Type 0) (item : Toks → Read
     (at_comma : (ts : Toks) → kind_at ts ≡ Some (kind.Mark mark.Comma) → F ts)
     (starts : (x : A) (from to : Toks) → S x from to → is_mark mark.CloseParen from ≡ false)
     (shallow : (ts : Toks) (n : ℕ) → item ts ≡ Err (Depth n) → ⊥) where
-
   listed_fuel : (f f' : ℕ) (found : List A) (ts : Toks) → length ts < f → length ts < f' → listed_at item f found ts ≡ listed_at item f' found ts
   unfolding listed_at
   listed_fuel zero f' found ts lf lf' = absurd (omega arith)
@@ -40,7 +39,7 @@ module _ {A : Type 0} (S : A → Toks → Toks → Type 0) (item : Toks → Read
   listed_complete x [] found from to sp f comma = rw (listed_is found from, complete x from to sp f, comma) refl
   listed_complete x (y ∷ ys) found from to (mid, sp, comma, sps) f end =
       rw (listed_is found from, complete x from mid sp (at_comma mid comma), at_mark mark.Comma mid _ comma, listed_complete y ys (found ++ x ∷ []) (after mid) to sps f end)
-        (ap (λ (zs : List A). Ok (zs, to)) (append_assoc found (x ∷ []) (y ∷ ys)))
+      (ap (λ (zs : List A). Ok (zs, to)) (append_assoc found (x ∷ []) (y ∷ ys)))
 
   abbrev ListedRead : List A → Toks → List A × Toks → Type 0
   ListedRead found ts y = (x : A) × (xs : List A) × (y.0 ≡ found ++ x ∷ xs) × Listed S (x ∷ xs) ts y.1
@@ -52,10 +51,11 @@ module _ {A : Type 0} (S : A → Toks → Toks → Type 0) (item : Toks → Read
       let a = bind_ok (item ts) (λ x. cond (is_mark mark.Comma x.1) (listed_at item f (found ++ x.0 ∷ []) (after x.1)) (done (found ++ x.0 ∷ [], x.1))) y e in
       let s = sound ts a.0 a.1 in
       elim (chosen (is_mark mark.Comma a.0.1) (listed_at item f (found ++ a.0.0 ∷ []) (after a.0.1)) (done (found ++ a.0.0 ∷ [], a.0.1)) _ a.2) [
-        inl z ↦ (
-          let r = listed_sound_at f (found ++ a.0.0 ∷ []) (after a.0.1) y z.1 in
-          (a.0.0, r.0 ∷ r.1, r.2 ∙ append_assoc found (a.0.0 ∷ []) (r.0 ∷ r.1), (a.0.1, s, mark_kind mark.Comma a.0.1 z.0, r.3)))
-      | inr z ↦ rw (← ok_is (found ++ a.0.0 ∷ [], a.0.1) y z.1) (a.0.0, [], refl, s) ]
+        | inl z ↦ (
+            let r = listed_sound_at f (found ++ a.0.0 ∷ []) (after a.0.1) y z.1 in
+            (a.0.0, r.0 ∷ r.1, r.2 ∙ append_assoc found (a.0.0 ∷ []) (r.0 ∷ r.1), (a.0.1, s, mark_kind mark.Comma a.0.1 z.0, r.3)))
+        | inr z ↦ rw (← ok_is (found ++ a.0.0 ∷ [], a.0.1) y z.1) (a.0.0, [], refl, s)
+      ]
 
   pub listed_sound : (found : List A) (ts : Toks) (y : List A × Toks) → listed_on item found ts ≡ Ok y → ListedRead found ts y
   unfolding listed_on
@@ -65,10 +65,12 @@ module _ {A : Type 0} (S : A → Toks → Toks → Type 0) (item : Toks → Read
   unfolding listed_at
   listed_shallow_at zero found ts n e = absurd cc
   listed_shallow_at (suc f) found ts n e = elim (bind_err (item ts) (λ x. cond (is_mark mark.Comma x.1) (listed_at item f (found ++ x.0 ∷ []) (after x.1)) (done (found ++ x.0 ∷ [], x.1))) _ e) [
-      inl y ↦ shallow ts n y
+    | inl y ↦ shallow ts n y
     | inr y ↦ elim (chosen (is_mark mark.Comma y.0.1) (listed_at item f (found ++ y.0.0 ∷ []) (after y.0.1)) (done (found ++ y.0.0 ∷ [], y.0.1)) _ y.2) [
-        inl z ↦ listed_shallow_at f (found ++ y.0.0 ∷ []) (after y.0.1) n z.1
-      | inr z ↦ no_ok _ n z.1 ] ]
+      | inl z ↦ listed_shallow_at f (found ++ y.0.0 ∷ []) (after y.0.1) n z.1
+      | inr z ↦ no_ok _ n z.1
+    ]
+  ]
 
   pub listed_shallow : (found : List A) (ts : Toks) (n : ℕ) → listed_on item found ts ≡ Err (Depth n) → ⊥
   unfolding listed_on
@@ -96,22 +98,25 @@ module _ {A : Type 0} (S : A → Toks → Toks → Type 0) (item : Toks → Read
       let q = kept (is_mark mark.OpenParen ts) (cond (is_mark mark.CloseParen (after ts)) (done ([], after ts)) (listed_on item [] (after ts) >>= λ xs. cond (is_mark mark.CloseParen xs.1) (done xs) (syntax_at xs.1))) _ y e in
       let lp = mark_kind mark.OpenParen ts q.0 in
       elim (chosen (is_mark mark.CloseParen (after ts)) (done ([], after ts)) (listed_on item [] (after ts) >>= λ xs. cond (is_mark mark.CloseParen xs.1) (done xs) (syntax_at xs.1)) _ q.1) [
-        inl z ↦ rw (← ok_is ([], after ts) y z.1) (lp, mark_kind mark.CloseParen (after ts) z.0, refl)
-      | inr z ↦ (
-          let l = bind_ok (listed_on item [] (after ts)) (λ xs. cond (is_mark mark.CloseParen xs.1) (done xs) (syntax_at xs.1)) y z.1 in
-          let s = listed_sound [] (after ts) l.0 l.1 in
-          let c = kept (is_mark mark.CloseParen l.0.1) (done l.0) _ y l.2 in
-          rw (← ok_is l.0 y c.1, s.2) (lp, mark_kind mark.CloseParen l.0.1 c.0, s.3)) ]
+        | inl z ↦ rw (← ok_is ([], after ts) y z.1) (lp, mark_kind mark.CloseParen (after ts) z.0, refl)
+        | inr z ↦ (
+            let l = bind_ok (listed_on item [] (after ts)) (λ xs. cond (is_mark mark.CloseParen xs.1) (done xs) (syntax_at xs.1)) y z.1 in
+            let s = listed_sound [] (after ts) l.0 l.1 in
+            let c = kept (is_mark mark.CloseParen l.0.1) (done l.0) _ y l.2 in
+            rw (← ok_is l.0 y c.1, s.2) (lp, mark_kind mark.CloseParen l.0.1 c.0, s.3))
+      ]
 
   pub bracketed_shallow : (ts : Toks) (n : ℕ) → bracketed_with item ts ≡ Err (Depth n) → ⊥
   unfolding bracketed_with
   bracketed_shallow ts n e =
       let q = syn (is_mark mark.OpenParen ts) (cond (is_mark mark.CloseParen (after ts)) (done ([], after ts)) (listed_on item [] (after ts) >>= λ xs. cond (is_mark mark.CloseParen xs.1) (done xs) (syntax_at xs.1))) _ n e in
       elim (chosen (is_mark mark.CloseParen (after ts)) (done ([], after ts)) (listed_on item [] (after ts) >>= λ xs. cond (is_mark mark.CloseParen xs.1) (done xs) (syntax_at xs.1)) _ q.1) [
-        inl z ↦ no_ok _ n z.1
-      | inr z ↦ elim (bind_err (listed_on item [] (after ts)) (λ xs. cond (is_mark mark.CloseParen xs.1) (done xs) (syntax_at xs.1)) _ z.1) [
-          inl u ↦ listed_shallow [] (after ts) n u
-        | inr u ↦ (let c = syn (is_mark mark.CloseParen u.0.1) (done u.0) _ n u.2 in no_ok _ n c.1) ] ]
+        | inl z ↦ no_ok _ n z.1
+        | inr z ↦ elim (bind_err (listed_on item [] (after ts)) (λ xs. cond (is_mark mark.CloseParen xs.1) (done xs) (syntax_at xs.1)) _ z.1) [
+          | inl u ↦ listed_shallow [] (after ts) n u
+          | inr u ↦ (let c = syn (is_mark mark.CloseParen u.0.1) (done u.0) _ n u.2 in no_ok _ n c.1)
+        ]
+      ]
 
   pub bracketed_le : (xs : List A) (from last : Toks) → Bracketed S xs from last → length last ≤ length from
   bracketed_le [] from last (lp, rp, is) = rw is (after_le from)
@@ -129,7 +134,6 @@ module _ {A : Type 0} (most : ℕ) (S : A → Toks → Toks → Type 0) (stops :
     (short : (x : A) (from to : Toks) → S x from to → length to < length from)
     (at_semicolon : (ts : Toks) → kind_at ts ≡ Some (kind.Mark mark.Semicolon) → F ts)
     (at_part : (x : A) (from to : Toks) → S x from to → F from × (stops from ≡ false)) where
-
   separated_fuel : (f f' : ℕ) (found : List A) (ts : Toks) → length ts < f → length ts < f' → separated_at stops item f found ts ≡ separated_at stops item f' found ts
   unfolding separated_at
   separated_fuel zero f' found ts lf lf' = absurd (omega arith)
@@ -170,13 +174,14 @@ module _ {A : Type 0} (most : ℕ) (S : A → Toks → Toks → Type 0) (stops :
   unfolding separated_at
   separated_sound_at zero found ts y e = absurd cc
   separated_sound_at (suc f) found ts y e = elim (chosen (stops ts) (done (found, ts)) (item ts >>= λ x. sep_at true x.1 >>= λ next. separated_at stops item f (found ++ x.0 ∷ []) next) _ e) [
-      inl z ↦ rw (← ok_is (found, ts) y z.1) ([], sym (append-nil found), refl, omega arith, z.0)
+    | inl z ↦ rw (← ok_is (found, ts) y z.1) ([], sym (append-nil found), refl, omega arith, z.0)
     | inr z ↦ (
         let a = bind_ok (item ts) (λ x. sep_at true x.1 >>= λ next. separated_at stops item f (found ++ x.0 ∷ []) next) y z.1 in
         let s = sound ts a.0 a.1 in
         let b = bind_ok (sep_at true a.0.1) (λ next. separated_at stops item f (found ++ a.0.0 ∷ []) next) y a.2 in
         let r = separated_sound_at f (found ++ a.0.0 ∷ []) b.0 y b.2 in
-        (a.0.0 ∷ r.0, r.1 ∙ append_assoc found (a.0.0 ∷ []) r.0, (a.0.1, b.0, s.0, sep_sound true a.0.1 b.0 b.1, r.2), omega (arith, s.1, r.3), r.4)) ]
+        (a.0.0 ∷ r.0, r.1 ∙ append_assoc found (a.0.0 ∷ []) r.0, (a.0.1, b.0, s.0, sep_sound true a.0.1 b.0 b.1, r.2), omega (arith, s.1, r.3), r.4))
+  ]
 
   pub separated_sound : (found : List A) (ts : Toks) (y : List A × Toks) → separated_on stops item found ts ≡ Ok y → SeparatedRead found ts y
   unfolding separated_on
@@ -190,12 +195,15 @@ module _ {A : Type 0} (most : ℕ) (S : A → Toks → Toks → Type 0) (stops :
   unfolding separated_at
   separated_deep_at zero found ts n e = absurd cc
   separated_deep_at (suc f) found ts n e = elim (chosen (stops ts) (done (found, ts)) (item ts >>= λ x. sep_at true x.1 >>= λ next. separated_at stops item f (found ++ x.0 ∷ []) next) _ e) [
-      inl z ↦ absurd (no_ok _ n z.1)
+    | inl z ↦ absurd (no_ok _ n z.1)
     | inr z ↦ elim (bind_err (item ts) (λ x. sep_at true x.1 >>= λ next. separated_at stops item f (found ++ x.0 ∷ []) next) _ z.1) [
-        inl u ↦ ([], ts, refl, u)
+      | inl u ↦ ([], ts, refl, u)
       | inr u ↦ (let s = sound ts u.0 u.1 in elim (bind_err (sep_at true u.0.1) (λ next. separated_at stops item f (found ++ u.0.0 ∷ []) next) _ u.2) [
-          inl v ↦ absurd (sep_no_depth true u.0.1 n v)
-        | inr v ↦ (let r = separated_deep_at f (found ++ u.0.0 ∷ []) v.0 n v.2 in (u.0.0 ∷ r.0, r.1, (u.0.1, v.0, s.0, sep_sound true u.0.1 v.0 v.1, r.2), r.3)) ]) ] ]
+        | inl v ↦ absurd (sep_no_depth true u.0.1 n v)
+        | inr v ↦ (let r = separated_deep_at f (found ++ u.0.0 ∷ []) v.0 n v.2 in (u.0.0 ∷ r.0, r.1, (u.0.1, v.0, s.0, sep_sound true u.0.1 v.0 v.1, r.2), r.3))
+      ])
+    ]
+  ]
 
   pub separated_deep : (found : List A) (ts : Toks) (n : ℕ) → separated_on stops item found ts ≡ Err (Depth n) → SeparatedDeep ts n
   unfolding separated_on

@@ -49,8 +49,9 @@ told_ok most r a to e = inl (omega arith, e)
 
 block_told : (most : ℕ) (b : Blk) (from to : Toks) → SpellsB b from to → Told most (nest_blk b) (read most body 0 from) b to
 block_told most b from to sp = elim (le_tells (nest_blk b) most) [
-    inl low ↦ inl (low, block_again most 0 b from to sp (omega (arith, low)))
-  | inr high ↦ inr (high, block_deep most 0 b from to sp (omega (arith, high))) ]
+  | inl low ↦ inl (low, block_again most 0 b from to sp (omega (arith, low)))
+  | inr high ↦ inr (high, block_deep most 0 b from to sp (omega (arith, high)))
+]
 
 block_starts : (b : Blk) (from to : Toks) → SpellsB b from to → kind_at from ≡ Some (kind.Mark mark.OpenBrace)
 block_starts (block s ss) from to sp = sp.0
@@ -58,7 +59,6 @@ block_starts (block s ss) from to sp = sp.0
 -- ---- functions
 
 module _ (most : ℕ) where
-
   abbrev made : Toks → Name → List Parameter → Option ResultType → Blk → Fun
   made ts n ps r b = record { span = till (here ts) (blk_span b); name = n; parameters = ps; result = r; body = b }
 
@@ -74,8 +74,8 @@ module _ (most : ℕ) where
   pub function_told : (f : Fun) (from to : Toks) → SpellsFunction f from to → Told most (nest_blk f.body) (function_with most from) f to
   function_told f from to (mid, next, k, nm, ps, rs, sp, is) =
       told_same most (nest_blk f.body) (function_with most from) _ f to (function_reads f from mid next to k nm ps rs sp)
-        (told_then most (nest_blk f.body) (read most body 0 next) (λ b. done (made from f.name f.parameters f.result b.0, b.1)) f.body f to to (block_told most f.body next to sp)
-          (ap (λ (g : Fun). Ok (g, to)) (function_same f from is)))
+      (told_then most (nest_blk f.body) (read most body 0 next) (λ b. done (made from f.name f.parameters f.result b.0, b.1)) f.body f to to (block_told most f.body next to sp)
+      (ap (λ (g : Fun). Ok (g, to)) (function_same f from is)))
 
   abbrev FunctionRead : Fun → Toks → Toks → Type 0
   FunctionRead f from to = SpellsFunction f from to × (nest_blk f.body ≤ most)
@@ -105,10 +105,11 @@ module _ (most : ℕ) where
   body_deep : (ts : Toks) (name : Name) (ps : List Parameter) (us : Toks) (n : ℕ) → kind_at ts ≡ Some (kind.Word word.Func) → name_at (after ts) ≡ Some name → SpellsParameters ps (after (after ts)) us → function_body_with most ts name ps us ≡ Err (Depth n) → DeepF ts n
   unfolding function_body_with
   body_deep ts name ps us n k nm sp e = elim (bind_err (returns_with us) (λ r. read most body 0 r.1 >>= λ b. done (made ts name ps r.0 b.0, b.1)) _ e) [
-      inl y ↦ absurd (returns_shallow us n y)
+    | inl y ↦ absurd (returns_shallow us n y)
     | inr r ↦ (
         let d = block_depth most 0 r.0.1 n (bind_deep (read most body 0 r.0.1) (λ b. (made ts name ps r.0.0 b.0, b.1)) n r.2) in
-        (partial name ps r.0.0 d.0, d.1, d.2, (us, r.0.1, k, nm, sp, returns_sound us r.0 r.1, d.3), omega (arith, d.4))) ]
+        (partial name ps r.0.0 d.0, d.1, d.2, (us, r.0.1, k, nm, sp, returns_sound us r.0 r.1, d.3), omega (arith, d.4)))
+  ]
 
   pub function_deep : (ts : Toks) (n : ℕ) → function_with most ts ≡ Err (Depth n) → DeepF ts n
   unfolding function_with
@@ -116,8 +117,9 @@ module _ (most : ℕ) where
       let q = wanted_deep (is_word word.Func ts) ts (on_some (name_at (after ts)) (λ m. parameters_with (after (after ts)) >>= λ ps. function_body_with most ts m ps.0 ps.1) (syntax_at (after ts))) n e in
       let m = some_syn (name_at (after ts)) (λ m. parameters_with (after (after ts)) >>= λ ps. function_body_with most ts m ps.0 ps.1) (length (after ts)) n q.1 in
       elim (bind_err (parameters_with (after (after ts))) (λ ps. function_body_with most ts m.0 ps.0 ps.1) _ m.2) [
-        inl y ↦ absurd (parameters_shallow (after (after ts)) n y)
-      | inr p ↦ body_deep ts m.0 p.0.0 p.0.1 n (word_kind word.Func ts q.0) m.1 (parameters_sound (after (after ts)) p.0 p.1) p.2 ]
+        | inl y ↦ absurd (parameters_shallow (after (after ts)) n y)
+        | inr p ↦ body_deep ts m.0 p.0.0 p.0.1 n (word_kind word.Func ts q.0) m.1 (parameters_sound (after (after ts)) p.0 p.1) p.2
+      ]
 
   pub function_short : (f : Fun) (from to : Toks) → SpellsFunction f from to → length to < length from
   function_short f from to (mid, next, k, nm, ps, rs, sp, is) = (let a = after_le from in let b = after_le (after from) in let c = parameters_le f.parameters (after (after from)) mid ps in let d = returns_le f.result mid next rs in let e = short_b f.body next to sp in omega arith)
@@ -168,7 +170,6 @@ method_word s None f from to (mid, is, sp, r) = (word.Func, (let k = sp.2 in rw 
 method_word s (Some m) f from to (mid, (c, is), sp, r) = (let k = changing_kind from m c in (k.0, k.1))
 
 module _ (most : ℕ) where
-
   abbrev Reads : Member → Toks → Toks → Read Member → Type 0
   Reads m from to r = Told most (nest_member m) r m to
 
@@ -189,14 +190,15 @@ module _ (most : ℕ) where
   method_sound : (ts : Toks) (x : Member × Toks) → method_with most ts ≡ Ok x → MethodRead x.0 ts x.1
   unfolding method_with
   method_sound ts x e = elim (some_or (changing_at ts) (λ m. function_with most (after ts) >>= λ f. done (method (till (here ts) f.0.span) (Some m) f.0, f.1)) (function_with most ts >>= λ f. done (method (till (here ts) f.0.span) None f.0, f.1)) _ e) [
-      inl m ↦ (
+    | inl m ↦ (
         let c = bind_ok (function_with most (after ts)) (λ f. done (method (till (here ts) f.0.span) (Some m.0) f.0, f.1)) x m.2 in
         let s = function_sound most (after ts) c.0 c.1 in
         rw (← ok_is (method (till (here ts) c.0.0.span) (Some m.0) c.0.0, c.0.1) x c.2) ((after ts, (m.1, refl), s.0, refl), (after ts, (m.1, refl), s.0, refl), s.1))
     | inr y ↦ (
         let c = bind_ok (function_with most ts) (λ f. done (method (till (here ts) f.0.span) None f.0, f.1)) x y.1 in
         let s = function_sound most ts c.0 c.1 in
-        rw (← ok_is (method (till (here ts) c.0.0.span) None c.0.0, c.0.1) x c.2) ((ts, refl, s.0, refl), (ts, refl, s.0, refl), s.1)) ]
+        rw (← ok_is (method (till (here ts) c.0.0.span) None c.0.0, c.0.1) x c.2) ((ts, refl, s.0, refl), (ts, refl, s.0, refl), s.1))
+  ]
 
   abbrev DeepM : (PMember → Toks → Toks → Type 0) → Toks → ℕ → Type 0
   DeepM P ts n = (m : PMember) × (at_ : Toks) × (length at_ ≡ n) × P m ts at_ × (most < nest_pm m)
@@ -204,12 +206,13 @@ module _ (most : ℕ) where
   method_deep : (ts : Toks) (n : ℕ) → method_with most ts ≡ Err (Depth n) → DeepM PartStructMember ts n × DeepM PartEnumMember ts n
   unfolding method_with
   method_deep ts n e = elim (some_or (changing_at ts) (λ m. function_with most (after ts) >>= λ f. done (method (till (here ts) f.0.span) (Some m) f.0, f.1)) (function_with most ts >>= λ f. done (method (till (here ts) f.0.span) None f.0, f.1)) _ e) [
-      inl m ↦ (
+    | inl m ↦ (
         let d = function_deep most (after ts) n (bind_deep (function_with most (after ts)) (λ f. (method (till (here ts) f.0.span) (Some m.0) f.0, f.1)) n m.2) in
         ((p_method (Some m.0) d.0, d.1, d.2, (after ts, (m.1, refl), d.3), d.4), (p_method (Some m.0) d.0, d.1, d.2, (after ts, (m.1, refl), d.3), d.4)))
     | inr y ↦ (
         let d = function_deep most ts n (bind_deep (function_with most ts) (λ f. (method (till (here ts) f.0.span) None f.0, f.1)) n y.1) in
-        ((p_method None d.0, d.1, d.2, (ts, refl, d.3), d.4), (p_method None d.0, d.1, d.2, (ts, refl, d.3), d.4))) ]
+        ((p_method None d.0, d.1, d.2, (ts, refl, d.3), d.4), (p_method None d.0, d.1, d.2, (ts, refl, d.3), d.4)))
+  ]
 
   changing_le : (m : Option MethodMode) (from mid : Toks) → Changing m from mid → length mid ≤ length from
   changing_le None from mid is = rw is (omega arith)
@@ -286,12 +289,15 @@ module _ (most : ℕ) where
   pub struct_member_sound : (ts : Toks) (x : Member × Toks) → struct_member_with most ts ≡ Ok x → MemberRead SpellsStructMember x.0 ts x.1
   unfolding struct_member_with
   struct_member_sound ts x e = elim (some_or (keyword_at ts) (field_with ts) (cond (is_word word.Init ts) (initializer_with most ts) (cond (is_word word.Deinit ts) (deinitializer_with most ts) (method_with most ts))) _ e) [
-      inl k ↦ field_sound ts k.0 x k.1 k.2
+    | inl k ↦ field_sound ts k.0 x k.1 k.2
     | inr y ↦ elim (chosen (is_word word.Init ts) _ _ _ y.1) [
-        inl z ↦ init_sound ts x z.0 z.1
+      | inl z ↦ init_sound ts x z.0 z.1
       | inr z ↦ elim (chosen (is_word word.Deinit ts) _ _ _ z.1) [
-          inl u ↦ (let d = deinit_sound ts x u.0 u.1 in (d.0, d.2))
-        | inr u ↦ (let m = method_sound ts x u.1 in (m.0, m.2)) ] ] ]
+        | inl u ↦ (let d = deinit_sound ts x u.0 u.1 in (d.0, d.2))
+        | inr u ↦ (let m = method_sound ts x u.1 in (m.0, m.2))
+      ]
+    ]
+  ]
 
   field_shallow : (ts : Toks) (k : Keyword) (n : ℕ) → field_with ts k ≡ Err (Depth n) → ⊥
   unfolding field_with
@@ -305,20 +311,24 @@ module _ (most : ℕ) where
   init_deep : (ts : Toks) (n : ℕ) → is_word word.Init ts ≡ true → initializer_with most ts ≡ Err (Depth n) → DeepM PartStructMember ts n
   unfolding initializer_with
   init_deep ts n kw e = elim (bind_err (parameters_with (after ts)) (λ ps. read most body 0 ps.1 >>= λ b. done (initializer (till (here ts) (blk_span b.0)) ps.0 b.0, b.1)) _ e) [
-      inl y ↦ absurd (parameters_shallow (after ts) n y)
+    | inl y ↦ absurd (parameters_shallow (after ts) n y)
     | inr p ↦ (
         let d = block_depth most 0 p.0.1 n (bind_deep (read most body 0 p.0.1) (λ b. (initializer (till (here ts) (blk_span b.0)) p.0.0 b.0, b.1)) n p.2) in
-        (p_initializer p.0.0 d.0, d.1, d.2, (p.0.1, word_kind word.Init ts kw, parameters_sound (after ts) p.0 p.1, d.3), omega (arith, d.4))) ]
+        (p_initializer p.0.0 d.0, d.1, d.2, (p.0.1, word_kind word.Init ts kw, parameters_sound (after ts) p.0 p.1, d.3), omega (arith, d.4)))
+  ]
 
   pub struct_member_deep : (ts : Toks) (n : ℕ) → struct_member_with most ts ≡ Err (Depth n) → DeepM PartStructMember ts n
   unfolding struct_member_with
   struct_member_deep ts n e = elim (some_or (keyword_at ts) (field_with ts) (cond (is_word word.Init ts) (initializer_with most ts) (cond (is_word word.Deinit ts) (deinitializer_with most ts) (method_with most ts))) _ e) [
-      inl k ↦ absurd (field_shallow ts k.0 n k.2)
+    | inl k ↦ absurd (field_shallow ts k.0 n k.2)
     | inr y ↦ elim (chosen (is_word word.Init ts) _ _ _ y.1) [
-        inl z ↦ init_deep ts n z.0 z.1
+      | inl z ↦ init_deep ts n z.0 z.1
       | inr z ↦ elim (chosen (is_word word.Deinit ts) _ _ _ z.1) [
-          inl u ↦ (deinit_deep ts n u.0 u.1).0
-        | inr u ↦ (method_deep ts n u.1).0 ] ] ]
+        | inl u ↦ (deinit_deep ts n u.0 u.1).0
+        | inr u ↦ (method_deep ts n u.1).0
+      ]
+    ]
+  ]
 
   pub struct_member_short : (m : Member) (from to : Toks) → SpellsStructMember m from to → length to < length from
   struct_member_short (field f) from to (kw, nm, colon, ty, is, s) = rw is (let a = after_short from _ (keyword_kind from f.keyword kw) in let b = after_le (after from) in let c = after_le (after (after from)) in let d = after_le (after (after (after from))) in omega arith)
@@ -367,8 +377,14 @@ item_by : (n : Name) (ns : List Name) (from to : Toks) (end : Span) → name_at 
 unfolding item_with wanted
 item_by n [] from to end nm (is, is_end) paren = let p = rw is at paren in rw (nm, p, is, is_end) refl
 item_by n (m ∷ ms) from to end nm (last, sp, is, is_end) paren =
-    rw (nm, at_mark mark.OpenParen (after from) _ sp.0, listed_complete SpellsName name_with Free name_is name_sound name_le (λ ts k. tt) name_starts name_shallow m ms [] (after (after from)) last sp.2 tt (at_mark mark.Comma last _ sp.1),
-      at_mark mark.CloseParen last _ sp.1, is, is_end) refl
+    rw (
+      nm,
+      at_mark mark.OpenParen (after from) _ sp.0,
+      listed_complete SpellsName name_with Free name_is name_sound name_le (λ ts k. tt) name_starts name_shallow m ms [] (after (after from)) last sp.2 tt (at_mark mark.Comma last _ sp.1),
+      at_mark mark.CloseParen last _ sp.1,
+      is,
+      is_end,
+    ) refl
 
 item_same : (i : CaseItem) (s : Span) → i.span ≡ s → record { span = s; name = i.name; payloads = i.payloads } ≡ i
 item_same i s e = rw (← e) refl
@@ -382,12 +398,13 @@ item_sound ts x e =
     let us = after (after ts) in
     let n = some_kept (name_at ts) (λ n. cond (is_mark mark.OpenParen (after ts)) (listed_on name_with [] us >>= λ ns. wanted (is_mark mark.CloseParen ns.1) ns.1 (done (item_made ts ns.1 n ns.0, after ns.1))) (done (item_made ts ts n [], after ts))) (Syntax (length ts)) x e in
     elim (chosen (is_mark mark.OpenParen (after ts)) (listed_on name_with [] us >>= λ ns. wanted (is_mark mark.CloseParen ns.1) ns.1 (done (item_made ts ns.1 n.0 ns.0, after ns.1))) (done (item_made ts ts n.0 [], after ts)) _ n.2) [
-      inl y ↦ (
-        let c = bind_ok (listed_on name_with [] us) (λ ns. wanted (is_mark mark.CloseParen ns.1) ns.1 (done (item_made ts ns.1 n.0 ns.0, after ns.1))) x y.1 in
-        let s = listed_sound SpellsName name_with Free name_is name_sound name_le (λ ts k. tt) name_starts name_shallow [] us c.0 c.1 in
-        let q = wanted_ok (is_mark mark.CloseParen c.0.1) c.0.1 (done (item_made ts c.0.1 n.0 c.0.0, after c.0.1)) x c.2 in
-        rw (← ok_is (item_made ts c.0.1 n.0 c.0.0, after c.0.1) x q.1, s.2) (n.1, here c.0.1, (c.0.1, (mark_kind mark.OpenParen (after ts) y.0, mark_kind mark.CloseParen c.0.1 q.0, s.3), refl, refl), refl))
-    | inr y ↦ rw (← ok_is (item_made ts ts n.0 [], after ts) x y.1) (n.1, here ts, (refl, refl), refl) ]
+      | inl y ↦ (
+          let c = bind_ok (listed_on name_with [] us) (λ ns. wanted (is_mark mark.CloseParen ns.1) ns.1 (done (item_made ts ns.1 n.0 ns.0, after ns.1))) x y.1 in
+          let s = listed_sound SpellsName name_with Free name_is name_sound name_le (λ ts k. tt) name_starts name_shallow [] us c.0 c.1 in
+          let q = wanted_ok (is_mark mark.CloseParen c.0.1) c.0.1 (done (item_made ts c.0.1 n.0 c.0.0, after c.0.1)) x c.2 in
+          rw (← ok_is (item_made ts c.0.1 n.0 c.0.0, after c.0.1) x q.1, s.2) (n.1, here c.0.1, (c.0.1, (mark_kind mark.OpenParen (after ts) y.0, mark_kind mark.CloseParen c.0.1 q.0, s.3), refl, refl), refl))
+      | inr y ↦ rw (← ok_is (item_made ts ts n.0 [], after ts) x y.1) (n.1, here ts, (refl, refl), refl)
+    ]
 
 item_shallow : (ts : Toks) (n : ℕ) → item_with ts ≡ Err (Depth n) → ⊥
 unfolding item_with
@@ -395,10 +412,12 @@ item_shallow ts n e =
     let us = after (after ts) in
     let m = some_syn (name_at ts) (λ n. cond (is_mark mark.OpenParen (after ts)) (listed_on name_with [] us >>= λ ns. wanted (is_mark mark.CloseParen ns.1) ns.1 (done (item_made ts ns.1 n ns.0, after ns.1))) (done (item_made ts ts n [], after ts))) (length ts) n e in
     elim (chosen (is_mark mark.OpenParen (after ts)) (listed_on name_with [] us >>= λ ns. wanted (is_mark mark.CloseParen ns.1) ns.1 (done (item_made ts ns.1 m.0 ns.0, after ns.1))) (done (item_made ts ts m.0 [], after ts)) _ m.2) [
-      inl y ↦ elim (bind_err (listed_on name_with [] us) (λ ns. wanted (is_mark mark.CloseParen ns.1) ns.1 (done (item_made ts ns.1 m.0 ns.0, after ns.1))) _ y.1) [
-        inl z ↦ listed_shallow SpellsName name_with Free name_is name_sound name_le (λ ts k. tt) name_starts name_shallow [] us n z
-      | inr z ↦ (let q = wanted_deep (is_mark mark.CloseParen z.0.1) z.0.1 (done (item_made ts z.0.1 m.0 z.0.0, after z.0.1)) n z.2 in no_ok _ n q.1) ]
-    | inr y ↦ no_ok _ n y.1 ]
+      | inl y ↦ elim (bind_err (listed_on name_with [] us) (λ ns. wanted (is_mark mark.CloseParen ns.1) ns.1 (done (item_made ts ns.1 m.0 ns.0, after ns.1))) _ y.1) [
+        | inl z ↦ listed_shallow SpellsName name_with Free name_is name_sound name_le (λ ts k. tt) name_starts name_shallow [] us n z
+        | inr z ↦ (let q = wanted_deep (is_mark mark.CloseParen z.0.1) z.0.1 (done (item_made ts z.0.1 m.0 z.0.0, after z.0.1)) n z.2 in no_ok _ n q.1)
+      ]
+      | inr y ↦ no_ok _ n y.1
+    ]
 
 payloads_le : (ns : List Name) (from to : Toks) (end : Span) → Payloads ns from to end → length to ≤ length from
 payloads_le [] from to end (is, is_end) = rw is (after_le from)
@@ -419,7 +438,6 @@ abbrev pub Follows : Toks → Type 0
 Follows ts = (is_mark mark.OpenParen ts ≡ false) × (is_mark mark.Comma ts ≡ false)
 
 module _ (most : ℕ) where
-
   cases_is : (items : List CaseItem) (from to : Toks) → Listed SpellsItem items (after from) to → Follows to → cases_with from ≡ Ok (cases (till (here from) (items_end (here from) items)) items, to)
   unfolding cases_with
   cases_is [] from to sp f = absurd sp
@@ -447,18 +465,22 @@ module _ (most : ℕ) where
   pub enum_member_sound : (ts : Toks) (x : Member × Toks) → enum_member_with most ts ≡ Ok x → MemberRead most SpellsEnumMember x.0 ts x.1
   unfolding enum_member_with
   enum_member_sound ts x e = elim (chosen (is_word word.Case ts) (cases_with ts) (cond (is_word word.Deinit ts) (deinitializer_with most ts) (method_with most ts)) _ e) [
-      inl y ↦ cases_sound ts x y.0 y.1
+    | inl y ↦ cases_sound ts x y.0 y.1
     | inr y ↦ elim (chosen (is_word word.Deinit ts) (deinitializer_with most ts) (method_with most ts) _ y.1) [
-        inl u ↦ (let d = deinit_sound most ts x u.0 u.1 in (d.1, d.2))
-      | inr u ↦ (let m = method_sound most ts x u.1 in (m.1, m.2)) ] ]
+      | inl u ↦ (let d = deinit_sound most ts x u.0 u.1 in (d.1, d.2))
+      | inr u ↦ (let m = method_sound most ts x u.1 in (m.1, m.2))
+    ]
+  ]
 
   pub enum_member_deep : (ts : Toks) (n : ℕ) → enum_member_with most ts ≡ Err (Depth n) → DeepM most PartEnumMember ts n
   unfolding enum_member_with
   enum_member_deep ts n e = elim (chosen (is_word word.Case ts) (cases_with ts) (cond (is_word word.Deinit ts) (deinitializer_with most ts) (method_with most ts)) _ e) [
-      inl y ↦ absurd (cases_shallow ts n y.1)
+    | inl y ↦ absurd (cases_shallow ts n y.1)
     | inr y ↦ elim (chosen (is_word word.Deinit ts) (deinitializer_with most ts) (method_with most ts) _ y.1) [
-        inl u ↦ (deinit_deep most ts n u.0 u.1).1
-      | inr u ↦ (method_deep most ts n u.1).1 ] ]
+      | inl u ↦ (deinit_deep most ts n u.0 u.1).1
+      | inr u ↦ (method_deep most ts n u.1).1
+    ]
+  ]
 
   pub enum_member_short : (m : Member) (from to : Toks) → SpellsEnumMember m from to → length to < length from
   enum_member_short (field f) from to sp = absurd sp

@@ -76,20 +76,22 @@ empty_read ts = Ok (answer.Empty (till (here ts) (here (after ts))), after (afte
 pub result_sound : (ts : Toks) (x : ResultType × Toks) → result_with ts ≡ Ok x → SpellsResult x.0 ts x.1
 unfolding result_with
 result_sound ts x e = elim (some_or (name_at ts) (λ n. done (answer.Named n, after ts)) (wanted (is_mark mark.OpenParen ts) ts (wanted (is_mark mark.CloseParen (after ts)) (after ts) (empty_read ts))) _ e) [
-    inl n ↦ rw (← ok_is (answer.Named n.0, after ts) x n.2) (n.1, refl)
+  | inl n ↦ rw (← ok_is (answer.Named n.0, after ts) x n.2) (n.1, refl)
   | inr y ↦ (
       let a = wanted_ok (is_mark mark.OpenParen ts) ts (wanted (is_mark mark.CloseParen (after ts)) (after ts) (empty_read ts)) x y.1 in
       let b = wanted_ok (is_mark mark.CloseParen (after ts)) (after ts) (empty_read ts) x a.1 in
-      rw (← ok_is (answer.Empty (till (here ts) (here (after ts))), after (after ts)) x b.1) (mark_kind mark.OpenParen ts a.0, mark_kind mark.CloseParen (after ts) b.0, refl, refl)) ]
+      rw (← ok_is (answer.Empty (till (here ts) (here (after ts))), after (after ts)) x b.1) (mark_kind mark.OpenParen ts a.0, mark_kind mark.CloseParen (after ts) b.0, refl, refl))
+]
 
 result_shallow : (ts : Toks) (n : ℕ) → result_with ts ≡ Err (Depth n) → ⊥
 unfolding result_with
 result_shallow ts n e = elim (some_or (name_at ts) (λ n. done (answer.Named n, after ts)) (wanted (is_mark mark.OpenParen ts) ts (wanted (is_mark mark.CloseParen (after ts)) (after ts) (empty_read ts))) _ e) [
-    inl m ↦ no_ok _ n m.2
+  | inl m ↦ no_ok _ n m.2
   | inr y ↦ (
       let a = wanted_deep (is_mark mark.OpenParen ts) ts (wanted (is_mark mark.CloseParen (after ts)) (after ts) (empty_read ts)) n y.1 in
       let b = wanted_deep (is_mark mark.CloseParen (after ts)) (after ts) (empty_read ts) n a.1 in
-      no_ok _ n b.1) ]
+      no_ok _ n b.1)
+]
 
 result_le : (r : ResultType) (from to : Toks) → SpellsResult r from to → length to ≤ length from
 result_le (answer.Named n) from to (nm, is) = rw is (after_le from)
@@ -103,14 +105,16 @@ returns_is (Some r) from to (k, sp) arrow = rw (at_mark mark.Arrow from _ k, res
 pub returns_sound : (ts : Toks) (x : Option ResultType × Toks) → returns_with ts ≡ Ok x → Returns x.0 ts x.1
 unfolding returns_with
 returns_sound ts x e = elim (chosen (is_mark mark.Arrow ts) (result_with (after ts) >>= λ r. done (Some r.0, r.1)) (done (None, ts)) _ e) [
-    inl y ↦ (let c = bind_ok (result_with (after ts)) (λ r. done (Some r.0, r.1)) x y.1 in rw (← ok_is (Some c.0.0, c.0.1) x c.2) (mark_kind mark.Arrow ts y.0, result_sound (after ts) c.0 c.1))
-  | inr y ↦ rw (← ok_is (None, ts) x y.1) refl ]
+  | inl y ↦ (let c = bind_ok (result_with (after ts)) (λ r. done (Some r.0, r.1)) x y.1 in rw (← ok_is (Some c.0.0, c.0.1) x c.2) (mark_kind mark.Arrow ts y.0, result_sound (after ts) c.0 c.1))
+  | inr y ↦ rw (← ok_is (None, ts) x y.1) refl
+]
 
 pub returns_shallow : (ts : Toks) (n : ℕ) → returns_with ts ≡ Err (Depth n) → ⊥
 unfolding returns_with
 returns_shallow ts n e = elim (chosen (is_mark mark.Arrow ts) (result_with (after ts) >>= λ r. done (Some r.0, r.1)) (done (None, ts)) _ e) [
-    inl y ↦ result_shallow (after ts) n (bind_deep (result_with (after ts)) (λ r. (Some r.0, r.1)) n y.1)
-  | inr y ↦ no_ok _ n y.1 ]
+  | inl y ↦ result_shallow (after ts) n (bind_deep (result_with (after ts)) (λ r. (Some r.0, r.1)) n y.1)
+  | inr y ↦ no_ok _ n y.1
+]
 
 pub returns_le : (r : Option ResultType) (from to : Toks) → Returns r from to → length to ≤ length from
 returns_le None from to is = rw is (omega arith)
@@ -129,14 +133,16 @@ ModedRead x from to = (mid : Toks) × Moded x.0 from mid × (name_at mid ≡ Som
 moded_sound : (ts : Toks) (x : (Option PassingMode × Name) × Toks) → moded_with ts ≡ Ok x → ModedRead x.0 ts x.1
 unfolding moded_with
 moded_sound ts x e = elim (some_or (passing_at ts) (λ m. on_some (name_at (after ts)) (λ n. done ((Some m, n), after (after ts))) (syntax_at (after ts))) (on_some (name_at ts) (λ n. done ((None, n), after ts)) (syntax_at ts)) _ e) [
-    inl m ↦ (let n = some_kept (name_at (after ts)) (λ n. done ((Some m.0, n), after (after ts))) (Syntax (length (after ts))) x m.2 in rw (← ok_is ((Some m.0, n.0), after (after ts)) x n.2) (after ts, (m.1, refl), n.1, refl))
-  | inr y ↦ (let n = some_kept (name_at ts) (λ n. done ((None, n), after ts)) (Syntax (length ts)) x y.1 in rw (← ok_is ((None, n.0), after ts) x n.2) (ts, refl, n.1, refl)) ]
+  | inl m ↦ (let n = some_kept (name_at (after ts)) (λ n. done ((Some m.0, n), after (after ts))) (Syntax (length (after ts))) x m.2 in rw (← ok_is ((Some m.0, n.0), after (after ts)) x n.2) (after ts, (m.1, refl), n.1, refl))
+  | inr y ↦ (let n = some_kept (name_at ts) (λ n. done ((None, n), after ts)) (Syntax (length ts)) x y.1 in rw (← ok_is ((None, n.0), after ts) x n.2) (ts, refl, n.1, refl))
+]
 
 moded_shallow : (ts : Toks) (n : ℕ) → moded_with ts ≡ Err (Depth n) → ⊥
 unfolding moded_with
 moded_shallow ts n e = elim (some_or (passing_at ts) (λ m. on_some (name_at (after ts)) (λ n. done ((Some m, n), after (after ts))) (syntax_at (after ts))) (on_some (name_at ts) (λ n. done ((None, n), after ts)) (syntax_at ts)) _ e) [
-    inl m ↦ (let q = some_syn (name_at (after ts)) (λ n. done ((Some m.0, n), after (after ts))) (length (after ts)) n m.2 in no_ok _ n q.2)
-  | inr y ↦ (let q = some_syn (name_at ts) (λ n. done ((None, n), after ts)) (length ts) n y.1 in no_ok _ n q.2) ]
+  | inl m ↦ (let q = some_syn (name_at (after ts)) (λ n. done ((Some m.0, n), after (after ts))) (length (after ts)) n m.2 in no_ok _ n q.2)
+  | inr y ↦ (let q = some_syn (name_at ts) (λ n. done ((None, n), after ts)) (length ts) n y.1 in no_ok _ n q.2)
+]
 
 moded_le : (m : Option PassingMode) (from mid : Toks) → Moded m from mid → length mid ≤ length from
 moded_le None from mid is = rw is (omega arith)
@@ -200,7 +206,7 @@ type_is (written.Function s ps r) from to (last, sp, arrow, res, is) =
 type_sound : (ts : Toks) (x : ParameterType × Toks) → type_with ts ≡ Ok x → SpellsType x.0 ts x.1
 unfolding type_with arrow_with
 type_sound ts x e = elim (chosen (is_mark mark.OpenParen ts) (bracketed_with inner_with ts >>= λ ps. arrow_with ts ps.0 ps.1) (moded_with ts >>= λ r. done (written.Named (till (here ts) r.0.1.span) r.0.0 r.0.1, r.1)) _ e) [
-    inl y ↦ (
+  | inl y ↦ (
       let c = bind_ok (bracketed_with inner_with ts) (λ ps. arrow_with ts ps.0 ps.1) x y.1 in
       let s = inners_sound ts c.0 c.1 in
       let us = after (after c.0.1) in
@@ -210,18 +216,21 @@ type_sound ts x e = elim (chosen (is_mark mark.OpenParen ts) (bracketed_with inn
   | inr y ↦ (
       let c = bind_ok (moded_with ts) (λ r. done (written.Named (till (here ts) r.0.1.span) r.0.0 r.0.1, r.1)) x y.1 in
       let s = moded_sound ts c.0 c.1 in
-      rw (← ok_is (written.Named (till (here ts) c.0.0.1.span) c.0.0.0 c.0.0.1, c.0.1) x c.2) (s.0, s.1, s.2, s.3, ap (λ (t : Span). till (here ts) t) (name_span s.0 c.0.0.1 s.2))) ]
+      rw (← ok_is (written.Named (till (here ts) c.0.0.1.span) c.0.0.0 c.0.0.1, c.0.1) x c.2) (s.0, s.1, s.2, s.3, ap (λ (t : Span). till (here ts) t) (name_span s.0 c.0.0.1 s.2)))
+]
 
 type_shallow : (ts : Toks) (n : ℕ) → type_with ts ≡ Err (Depth n) → ⊥
 unfolding type_with arrow_with
 type_shallow ts n e = elim (chosen (is_mark mark.OpenParen ts) (bracketed_with inner_with ts >>= λ ps. arrow_with ts ps.0 ps.1) (moded_with ts >>= λ r. done (written.Named (till (here ts) r.0.1.span) r.0.0 r.0.1, r.1)) _ e) [
-    inl y ↦ elim (bind_err (bracketed_with inner_with ts) (λ ps. arrow_with ts ps.0 ps.1) _ y.1) [
-      inl z ↦ inners_shallow ts n z
+  | inl y ↦ elim (bind_err (bracketed_with inner_with ts) (λ ps. arrow_with ts ps.0 ps.1) _ y.1) [
+    | inl z ↦ inners_shallow ts n z
     | inr z ↦ (
         let us = after (after z.0.1) in
         let w = wanted_deep (is_mark mark.Arrow (after z.0.1)) (after z.0.1) (result_with us >>= λ r. done (written.Function (till (here ts) (result_span r.0)) z.0.0 r.0, r.1)) n z.2 in
-        result_shallow us n (bind_deep (result_with us) (λ r. (written.Function (till (here ts) (result_span r.0)) z.0.0 r.0, r.1)) n w.1)) ]
-  | inr y ↦ moded_shallow ts n (bind_deep (moded_with ts) (λ r. (written.Named (till (here ts) r.0.1.span) r.0.0 r.0.1, r.1)) n y.1) ]
+        result_shallow us n (bind_deep (result_with us) (λ r. (written.Function (till (here ts) (result_span r.0)) z.0.0 r.0, r.1)) n w.1))
+  ]
+  | inr y ↦ moded_shallow ts n (bind_deep (moded_with ts) (λ r. (written.Named (till (here ts) r.0.1.span) r.0.0 r.0.1, r.1)) n y.1)
+]
 
 type_le : (w : ParameterType) (from to : Toks) → SpellsType w from to → length to ≤ length from
 type_le (written.Named s m n) from to (mid, md, nm, is, r) = rw is (let a = moded_le m from mid md in let b = after_le mid in omega arith)
@@ -239,22 +248,26 @@ labelled_is (label.Other l) n from mid (lb, nm, is) colon = rw (is, name_no_mark
 labelled_sound : (ts : Toks) (x : (Label × Name) × Toks) → labelled_with ts ≡ Ok x → Labelled x.0.0 x.0.1 ts x.1
 unfolding labelled_with
 labelled_sound ts x e = elim (chosen (is_mark mark.Underscore ts) (on_some (name_at (after ts)) (λ n. done ((label.Omitted, n), after (after ts))) (syntax_at (after ts))) (on_some (name_at ts) (λ l. on_some (name_at (after ts)) (λ n. done ((label.Other l, n), after (after ts))) (done ((label.Same, l), after ts))) (syntax_at ts)) _ e) [
-    inl y ↦ (let n = some_kept (name_at (after ts)) (λ n. done ((label.Omitted, n), after (after ts))) (Syntax (length (after ts))) x y.1 in rw (← ok_is ((label.Omitted, n.0), after (after ts)) x n.2) (mark_kind mark.Underscore ts y.0, n.1, refl))
+  | inl y ↦ (let n = some_kept (name_at (after ts)) (λ n. done ((label.Omitted, n), after (after ts))) (Syntax (length (after ts))) x y.1 in rw (← ok_is ((label.Omitted, n.0), after (after ts)) x n.2) (mark_kind mark.Underscore ts y.0, n.1, refl))
   | inr y ↦ (
       let l = some_kept (name_at ts) (λ l. on_some (name_at (after ts)) (λ n. done ((label.Other l, n), after (after ts))) (done ((label.Same, l), after ts))) (Syntax (length ts)) x y.1 in
       elim (some_or (name_at (after ts)) (λ n. done ((label.Other l.0, n), after (after ts))) (done ((label.Same, l.0), after ts)) _ l.2) [
-        inl n ↦ rw (← ok_is ((label.Other l.0, n.0), after (after ts)) x n.2) (l.1, n.1, refl)
-      | inr n ↦ rw (← ok_is ((label.Same, l.0), after ts) x n.1) (l.1, refl) ]) ]
+        | inl n ↦ rw (← ok_is ((label.Other l.0, n.0), after (after ts)) x n.2) (l.1, n.1, refl)
+        | inr n ↦ rw (← ok_is ((label.Same, l.0), after ts) x n.1) (l.1, refl)
+      ])
+]
 
 labelled_shallow : (ts : Toks) (n : ℕ) → labelled_with ts ≡ Err (Depth n) → ⊥
 unfolding labelled_with
 labelled_shallow ts n e = elim (chosen (is_mark mark.Underscore ts) (on_some (name_at (after ts)) (λ n. done ((label.Omitted, n), after (after ts))) (syntax_at (after ts))) (on_some (name_at ts) (λ l. on_some (name_at (after ts)) (λ n. done ((label.Other l, n), after (after ts))) (done ((label.Same, l), after ts))) (syntax_at ts)) _ e) [
-    inl y ↦ (let q = some_syn (name_at (after ts)) (λ n. done ((label.Omitted, n), after (after ts))) (length (after ts)) n y.1 in no_ok _ n q.2)
+  | inl y ↦ (let q = some_syn (name_at (after ts)) (λ n. done ((label.Omitted, n), after (after ts))) (length (after ts)) n y.1 in no_ok _ n q.2)
   | inr y ↦ (
       let l = some_syn (name_at ts) (λ l. on_some (name_at (after ts)) (λ n. done ((label.Other l, n), after (after ts))) (done ((label.Same, l), after ts))) (length ts) n y.1 in
       elim (some_or (name_at (after ts)) (λ n. done ((label.Other l.0, n), after (after ts))) (done ((label.Same, l.0), after ts)) _ l.2) [
-        inl m ↦ no_ok _ n m.2
-      | inr m ↦ no_ok _ n m.1 ]) ]
+        | inl m ↦ no_ok _ n m.2
+        | inr m ↦ no_ok _ n m.1
+      ])
+]
 
 labelled_le : (l : Label) (n : Name) (from mid : Toks) → Labelled l n from mid → length mid ≤ length from
 labelled_le label.Same n from mid (nm, is) = rw is (after_le from)
@@ -280,10 +293,11 @@ parameter_sound ts x e =
 parameter_shallow : (ts : Toks) (n : ℕ) → parameter_with ts ≡ Err (Depth n) → ⊥
 unfolding parameter_with
 parameter_shallow ts n e = elim (bind_err (labelled_with ts) (λ l. wanted (is_mark mark.Colon l.1) l.1 (type_with (after l.1) >>= λ w. done (record { span = till (here ts) (type_span w.0); label = l.0.0; name = l.0.1; written = w.0 }, w.1))) _ e) [
-    inl y ↦ labelled_shallow ts n y
+  | inl y ↦ labelled_shallow ts n y
   | inr l ↦ (
       let q = wanted_deep (is_mark mark.Colon l.0.1) l.0.1 (type_with (after l.0.1) >>= λ w. done (record { span = till (here ts) (type_span w.0); label = l.0.0.0; name = l.0.0.1; written = w.0 }, w.1)) n l.2 in
-      type_shallow (after l.0.1) n (bind_deep (type_with (after l.0.1)) (λ w. (record { span = till (here ts) (type_span w.0); label = l.0.0.0; name = l.0.0.1; written = w.0 }, w.1)) n q.1)) ]
+      type_shallow (after l.0.1) n (bind_deep (type_with (after l.0.1)) (λ w. (record { span = till (here ts) (type_span w.0); label = l.0.0.0; name = l.0.0.1; written = w.0 }, w.1)) n q.1))
+]
 
 parameter_le : (p : Parameter) (from to : Toks) → SpellsParameter p from to → length to ≤ length from
 parameter_le p from to (mid, lab, colon, ty, s) = (let a = labelled_le p.label p.name from mid lab in let b = after_le mid in let c = type_le p.written (after mid) to ty in omega arith)

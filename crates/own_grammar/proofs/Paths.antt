@@ -24,7 +24,7 @@ fields_complete : (ns found : List Name) (from to : Toks) → Fields ns from to 
 fields_complete [] found from to is dot = rw (← is, fields_is found to, dot) (ap (λ (xs : List Name). Ok (xs, to)) (sym (append-nil found)))
 fields_complete (n ∷ ns) found from to (point, nm, more) dot =
     rw (fields_is found from, at_mark mark.Dot from _ point, nm, fields_complete ns (found ++ n ∷ []) (after (after from)) to more dot)
-      (ap (λ (xs : List Name). Ok (xs, to)) (append_assoc found (n ∷ []) ns))
+    (ap (λ (xs : List Name). Ok (xs, to)) (append_assoc found (n ∷ []) ns))
 
 abbrev FieldsRead : List Name → Toks → List Name × Toks → Type 0
 FieldsRead found ts x = (ns : List Name) × (x.0 ≡ found ++ ns) × Fields ns ts x.1 × (is_mark mark.Dot x.1 ≡ false)
@@ -43,21 +43,25 @@ fields_sound : (found : List Name) (ts : Toks) (x : List Name × Toks) → field
 unfolding fields_on
 fields_sound found [] x e = fields_stop found [] x no_dot e
 fields_sound found (t ∷ []) x e = elim (chosen (is_mark mark.Dot (t ∷ [])) (syntax_at []) (Ok (found, t ∷ [])) (Ok x) e) [
-    inl y ↦ absurd cc
-  | inr y ↦ fields_stop found (t ∷ []) x y.0 y.1 ]
+  | inl y ↦ absurd cc
+  | inr y ↦ fields_stop found (t ∷ []) x y.0 y.1
+]
 fields_sound found (t ∷ u ∷ ts) x e = elim (chosen (is_mark mark.Dot (t ∷ u ∷ ts)) (on_some (name_at (u ∷ ts)) (λ n. fields_on (found ++ n ∷ []) ts) (syntax_at (u ∷ ts))) (Ok (found, t ∷ u ∷ ts)) (Ok x) e) [
-    inl y ↦ (let s = some_kept (name_at (u ∷ ts)) (λ n. fields_on (found ++ n ∷ []) ts) (Syntax (length (u ∷ ts))) x y.1 in fields_more found (t ∷ u ∷ ts) x s.0 y.0 s.1 (fields_sound (found ++ s.0 ∷ []) ts x s.2))
-  | inr y ↦ fields_stop found (t ∷ u ∷ ts) x y.0 y.1 ]
+  | inl y ↦ (let s = some_kept (name_at (u ∷ ts)) (λ n. fields_on (found ++ n ∷ []) ts) (Syntax (length (u ∷ ts))) x y.1 in fields_more found (t ∷ u ∷ ts) x s.0 y.0 s.1 (fields_sound (found ++ s.0 ∷ []) ts x s.2))
+  | inr y ↦ fields_stop found (t ∷ u ∷ ts) x y.0 y.1
+]
 
 fields_no_depth : (found : List Name) (ts : Toks) (n : ℕ) → fields_on found ts ≡ Err (Depth n) → ⊥
 unfolding fields_on
 fields_no_depth found [] n e = absurd cc
 fields_no_depth found (t ∷ []) n e = elim (chosen (is_mark mark.Dot (t ∷ [])) (syntax_at []) (Ok (found, t ∷ [])) (Err (Depth n)) e) [
-    inl y ↦ absurd cc
-  | inr y ↦ absurd cc ]
+  | inl y ↦ absurd cc
+  | inr y ↦ absurd cc
+]
 fields_no_depth found (t ∷ u ∷ ts) n e = elim (chosen (is_mark mark.Dot (t ∷ u ∷ ts)) (on_some (name_at (u ∷ ts)) (λ n. fields_on (found ++ n ∷ []) ts) (syntax_at (u ∷ ts))) (Ok (found, t ∷ u ∷ ts)) (Err (Depth n)) e) [
-    inl y ↦ (let s = some_syn (name_at (u ∷ ts)) (λ n. fields_on (found ++ n ∷ []) ts) (length (u ∷ ts)) n y.1 in fields_no_depth (found ++ s.0 ∷ []) ts n s.2)
-  | inr y ↦ absurd cc ]
+  | inl y ↦ (let s = some_syn (name_at (u ∷ ts)) (λ n. fields_on (found ++ n ∷ []) ts) (length (u ∷ ts)) n y.1 in fields_no_depth (found ++ s.0 ∷ []) ts n s.2)
+  | inr y ↦ absurd cc
+]
 
 -- ---- paths
 
@@ -105,11 +109,13 @@ typed_is (Some t) from to (colon, nm, is) none = rw (is, colon, nm) refl
 pub typed_sound : (ts : Toks) (x : Option Name × Toks) → typed_with ts ≡ Ok x → Typed x.0 ts x.1
 unfolding typed_with
 typed_sound ts x e = elim (chosen (annotates ts) (on_some (name_at (after ts)) (λ n. done (Some n, after (after ts))) (syntax_at (after ts))) (Ok (None, ts)) (Ok x) e) [
-    inl y ↦ (let s = some_kept (name_at (after ts)) (λ n. done (Some n, after (after ts))) (Syntax (length (after ts))) x y.1 in rw (← ok_is (Some s.0, after (after ts)) x s.2) (y.0, s.1, refl))
-  | inr y ↦ rw (← ok_is (None, ts) x y.1) refl ]
+  | inl y ↦ (let s = some_kept (name_at (after ts)) (λ n. done (Some n, after (after ts))) (Syntax (length (after ts))) x y.1 in rw (← ok_is (Some s.0, after (after ts)) x s.2) (y.0, s.1, refl))
+  | inr y ↦ rw (← ok_is (None, ts) x y.1) refl
+]
 
 pub typed_no_depth : (ts : Toks) (n : ℕ) → typed_with ts ≡ Err (Depth n) → ⊥
 unfolding typed_with
 typed_no_depth ts n e = elim (chosen (annotates ts) (on_some (name_at (after ts)) (λ n. done (Some n, after (after ts))) (syntax_at (after ts))) (Ok (None, ts)) (Err (Depth n)) e) [
-    inl y ↦ (let s = some_syn (name_at (after ts)) (λ n. done (Some n, after (after ts))) (length (after ts)) n y.1 in absurd cc)
-  | inr y ↦ absurd cc ]
+  | inl y ↦ (let s = some_syn (name_at (after ts)) (λ n. done (Some n, after (after ts))) (length (after ts)) n y.1 in absurd cc)
+  | inr y ↦ absurd cc
+]

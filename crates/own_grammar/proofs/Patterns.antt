@@ -14,7 +14,6 @@ use Rattle.own_grammar.proofs.Facts.{number_kind, name_kind, truth_word, truth_k
 use Rattle.own_grammar.proofs.Lists.{let_pats_in, let_pats_list, pats_in, pats_list}
 
 module _ (R : PatternReader) (opened : (g : PatternGoal) (ts : Toks) → R g ts ≡ pattern_step R g ts) where
-
   -- ---- what is spelled is read: patterns after `let`
 
   abbrev GoodLet : LetPat → Type 0
@@ -52,13 +51,23 @@ module _ (R : PatternReader) (opened : (g : PatternGoal) (ts : Toks) → R g ts 
   unfolding let_patterns_with let_pats_in pattern_step
   more_let q ps goodq rest p good found from to (mid, sp, comma, sps) paren last =
       rw (good from mid sp (at_mark mark.OpenParen mid _ comma), at_mark mark.Comma mid _ comma, opened (let_patterns_on (found ++ p ∷ [])) (after mid), rest q goodq (found ++ p ∷ []) (after mid) to sps paren last)
-        (ap (λ (xs : List LetPat). Ok (xs, to)) (append_assoc found (p ∷ []) (let_pats_in (let_pat q ps))))
+      (ap (λ (xs : List LetPat). Ok (xs, to)) (append_assoc found (p ∷ []) (let_pats_in (let_pat q ps))))
 
   let_is_case : (s : Span) (n : Name) (p : LetPat) (ps : LetPats) → GoodLet p → MoreLet ps → GoodLet (let_case s n (let_pat p ps))
   unfolding let_pattern_with let_case_with let_parts_with pattern_step
   let_is_case s n p ps good more from to (c, open_, last, sps, close, is, r) paren =
-      rw (is, r, at_mark mark.Underscore from _ c.0, at_mark mark.Dot from _ c.0, c.1, at_mark mark.OpenParen (after (after from)) _ open_, opened (let_patterns_on []) (after (after (after from))),
-        more p good [] (after (after (after from))) last sps (at_mark mark.OpenParen last _ close) (at_mark mark.Comma last _ close), at_mark mark.CloseParen last _ close, let_pats_list (let_pat p ps)) refl
+      rw (
+        is,
+        r,
+        at_mark mark.Underscore from _ c.0,
+        at_mark mark.Dot from _ c.0,
+        c.1,
+        at_mark mark.OpenParen (after (after from)) _ open_,
+        opened (let_patterns_on []) (after (after (after from))),
+        more p good [] (after (after (after from))) last sps (at_mark mark.OpenParen last _ close) (at_mark mark.Comma last _ close),
+        at_mark mark.CloseParen last _ close,
+        let_pats_list (let_pat p ps),
+      ) refl
 
   mutual
     let_good : (p : LetPat) → GoodLet p
@@ -124,13 +133,24 @@ module _ (R : PatternReader) (opened : (g : PatternGoal) (ts : Toks) → R g ts 
   unfolding patterns_with pats_in pattern_step
   more_pat q ps goodq rest p good found from to (mid, sp, comma, sps) paren last =
       rw (good from mid sp (at_mark mark.OpenParen mid _ comma), at_mark mark.Comma mid _ comma, opened (patterns_on (found ++ p ∷ [])) (after mid), rest q goodq (found ++ p ∷ []) (after mid) to sps paren last)
-        (ap (λ (xs : List Pat). Ok (xs, to)) (append_assoc found (p ∷ []) (pats_in (pat q ps))))
+      (ap (λ (xs : List Pat). Ok (xs, to)) (append_assoc found (p ∷ []) (pats_in (pat q ps))))
 
   is_case : (s : Span) (n : Name) (p : Pat) (ps : Pats) → Good p → More ps → Good (on_case s n (pat p ps))
   unfolding pattern_with case_with parts_with pattern_step
   is_case s n p ps good more from to (c, open_, last, sps, close, is, r) paren =
-      rw (is, r, at_mark mark.Underscore from _ c.0, at_word word.Let from _ c.0, at_mark mark.Dot from _ c.0, c.1, at_mark mark.OpenParen (after (after from)) _ open_, opened (patterns_on []) (after (after (after from))),
-        more p good [] (after (after (after from))) last sps (at_mark mark.OpenParen last _ close) (at_mark mark.Comma last _ close), at_mark mark.CloseParen last _ close, pats_list (pat p ps)) refl
+      rw (
+        is,
+        r,
+        at_mark mark.Underscore from _ c.0,
+        at_word word.Let from _ c.0,
+        at_mark mark.Dot from _ c.0,
+        c.1,
+        at_mark mark.OpenParen (after (after from)) _ open_,
+        opened (patterns_on []) (after (after (after from))),
+        more p good [] (after (after (after from))) last sps (at_mark mark.OpenParen last _ close) (at_mark mark.Comma last _ close),
+        at_mark mark.CloseParen last _ close,
+        pats_list (pat p ps),
+      ) refl
 
   mutual
     good : (p : Pat) → Good p

@@ -25,7 +25,6 @@ use Rattle.own_grammar.proofs.Sound.{Sound, sound_primary_short, sound_level, so
 use Rattle.own_grammar.proofs.Steps.{Near, same, near_bind, near_cond, near_some, near_limit, equal}
 
 module _ (loose : Type 0) (most most' : ℕ) (limits : (most ≡ most') ⊎ (loose × (most ≤ most'))) (k k' : Reader) (snd : Sound most k) (n : ℕ) (agree : (g : Goal) (d : ℕ) (ts : Toks) → length ts < n → Near loose (k g d ts) (k' g d ts)) where
-
   abbrev Alike : {A : Type 0} → Result A Fault → Result A Fault → Type 0
   Alike r r' = Near loose r r'
 
@@ -69,7 +68,7 @@ module _ (loose : Type 0) (most most' : ℕ) (limits : (most ≡ most') ⊎ (loo
   unfolding operators_with operator_with
   near_operators j context e d ts le = near_some loose (operator_at ts) _ _ _ _ (λ o is. near_cond loose (eqb (level o) (suc j)) _ _ _ _
       (λ y. near_limit loose most most' limits (d + nest e) _ _ _ (λ lt. near_bind loose _ _ _ _ (near_level j context (d + 1) (after ts) (let a = operator_short ts o is in omega arith))
-        (λ x r. near_next (chains (suc j)) j context d _ x.1 (let p = sound_level most k snd j context (d + 1) (after ts) x r in let a = short_e x.0 false context (after ts) x.1 p.0 in let b = operator_short ts o is in omega arith))))
+      (λ x r. near_next (chains (suc j)) j context d _ x.1 (let p = sound_level most k snd j context (d + 1) (after ts) x r in let a = short_e x.0 false context (after ts) x.1 p.0 in let b = operator_short ts o is in omega arith))))
       (λ y. same refl)) (λ y. same refl)
 
   near_branches : (context : Context) (d : ℕ) (c : Exp) (ts : Toks) → length ts < n → Alike (branches_with k context d c ts) (branches_with k' context d c ts)
@@ -112,9 +111,9 @@ module _ (loose : Type 0) (most most' : ℕ) (limits : (most ≡ most') ⊎ (loo
   unfolding called_with
   near_called context f d xs ts le = near_cond loose (is_mark mark.CloseParen ts) _ _ _ _ (λ rp. (let a = after_short ts _ (mark_kind mark.CloseParen ts rp) in
       near_cond loose (closes context (after ts)) _ _ _ _
-        (λ y. (let lb = at_mark mark.OpenBrace (after ts) _ (closes_kind context (after ts) y) in
-          near_bind loose _ _ _ _ (near_closure (d + 1) (after ts) (omega arith) lb) (λ x r. agree (calls_on context (call_closing (till (exp_span f) (clo_span x.0)) f (args_of xs) x.0)) d x.1 (let p = sound_closure most k snd (d + 1) (after ts) x lb r in let b = short_k x.0 (after ts) x.1 p.0 in omega arith))))
-        (λ y. agree (calls_on context (call (till (exp_span f) (here ts)) f (args_of xs))) d (after ts) (omega arith)))) (λ y. same refl)
+      (λ y. (let lb = at_mark mark.OpenBrace (after ts) _ (closes_kind context (after ts) y) in
+      near_bind loose _ _ _ _ (near_closure (d + 1) (after ts) (omega arith) lb) (λ x r. agree (calls_on context (call_closing (till (exp_span f) (clo_span x.0)) f (args_of xs) x.0)) d x.1 (let p = sound_closure most k snd (d + 1) (after ts) x lb r in let b = short_k x.0 (after ts) x.1 p.0 in omega arith))))
+      (λ y. agree (calls_on context (call (till (exp_span f) (here ts)) f (args_of xs))) d (after ts) (omega arith)))) (λ y. same refl)
 
   near_call : (context : Context) (f : Exp) (d : ℕ) (ts : Toks) → length ts ≤ n → Alike (call_with most k context f d ts) (call_with most' k' context f d ts)
   unfolding call_with
@@ -170,7 +169,7 @@ module _ (loose : Type 0) (most most' : ℕ) (limits : (most ≡ most') ⊎ (loo
   unfolding for_with lower_with
   near_for d ts w kw le = (let a = after_short ts _ kw in let b = after_le (after ts) in let c = after_le (after (after ts)) in near_some loose (binder_at (after ts)) _ _ _ _ (λ m e. near_cond loose (is_word word.In (after (after ts))) _ _ _ _
       (λ y. near_bind loose _ _ _ _ (agree (expression Condition) (d + 1) (after (after (after ts))) (omega arith)) (λ x r. near_some loose (range_at x.1) _ _ _ _
-        (λ o e. near_upper d ts m x.0 o x.1 (let p = snd (expression Condition) (d + 1) (after (after (after ts))) x r in let f = short_e x.0 false Condition (after (after (after ts))) x.1 p.0 in omega arith)) (λ e. same refl)))
+      (λ o e. near_upper d ts m x.0 o x.1 (let p = snd (expression Condition) (d + 1) (after (after (after ts))) x r in let f = short_e x.0 false Condition (after (after (after ts))) x.1 p.0 in omega arith)) (λ e. same refl)))
       (λ y. same refl)) (λ e. same refl))
 
   near_else : (d : ℕ) (ts : Toks) (c : Exp) (b : Blk) (us : Toks) → length us ≤ n → Alike (else_with k d ts c b us) (else_with k' d ts c b us)

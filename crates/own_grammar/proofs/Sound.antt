@@ -176,7 +176,6 @@ unfolding binder_at name_at binder_kind_of
 binder_name ts n e = let k = binder_kind ts (Some n) e in rw k (ap (λ (m : Name). Some m) (binder_named (here ts) n.text n (rw k at e)))
 
 module _ (most : ℕ) where
-
   abbrev pub Spelled : (g : Goal) → ℕ → Out g → Toks → Toks → Type 0
   Spelled (expression context) d e from to = SpellsE e false context from to × (d + nest e ≤ most)
   Spelled (operand context) d e from to = SpellsE e true context from to × (d + nest e ≤ most) × (level_of e ≡ 0)
@@ -194,7 +193,6 @@ module _ (most : ℕ) where
   Sound k = (g : Goal) (d : ℕ) (ts : Toks) (x : Out g × Toks) → k g d ts ≡ Ok x → Spelled g d x.0 ts x.1
 
   module _ (k : Reader) (snd : Sound k) where
-
     abbrev Whole : Exp → Bool → Context → ℕ → Toks → Toks → Type 0
     Whole e tight context d from to = SpellsE e tight context from to × (d + nest e ≤ most) × (is_post e ≡ true) × (is_call e ≡ false) × (is_path e ≡ true → is_mark mark.Dot to ≡ false)
 
@@ -215,17 +213,21 @@ module _ (most : ℕ) where
     pub sound_primary : (tight : Bool) (context : Context) (d : ℕ) (ts : Toks) (x : Exp × Toks) → d < most → primary_with k tight d ts ≡ Ok x → Whole x.0 tight context d ts x.1
     unfolding primary_with
     sound_primary tight context d ts x lt e = elim (some_or (negative_at tight ts) _ _ _ e) [
-        inl n ↦ rw (← ok_is (number (till (here ts) (here (after ts))) true n.0, after (after ts)) x n.2) ((n.1, refl, refl), omega arith, refl, refl, λ y. absurd cc)
+      | inl n ↦ rw (← ok_is (number (till (here ts) (here (after ts))) true n.0, after (after ts)) x n.2) ((n.1, refl, refl), omega arith, refl, refl, λ y. absurd cc)
       | inr a ↦ elim (some_or (literal_at ts) _ _ _ a.1) [
-          inl l ↦ (let f = literal_sound ts l.0 l.1 in rw (← ok_is (l.0, after ts) x l.2) (f.0 tight context, omega (arith, lt, f.1), f.2, f.3, λ y. absurd (clash _ y f.4)))
+        | inl l ↦ (let f = literal_sound ts l.0 l.1 in rw (← ok_is (l.0, after ts) x l.2) (f.0 tight context, omega (arith, lt, f.1), f.2, f.3, λ y. absurd (clash _ y f.4)))
         | inr b ↦ elim (some_or (root_at ts) (λ r. path_from r ts >>= λ p. done (path p.0, p.1)) _ _ b.1) [
-            inl r ↦ (
+          | inl r ↦ (
               let c = bind_ok (path_from r.0 ts) (λ p. done (path p.0, p.1)) x r.2 in
               let p = path_from_sound r.0 ts c.0 r.1 c.1 in
               rw (← ok_is (path c.0.0, c.0.1) x c.2) (p.0, omega arith, refl, refl, λ y. p.1))
           | inr g ↦ elim (chosen (is_mark mark.Dot ts) _ _ _ g.1) [
-              inl y ↦ sound_implicit tight context d ts x lt y.0 y.1
-            | inr y ↦ (let q = kept _ _ _ _ y.1 in sound_parenthesized tight context d ts x (mark_kind mark.OpenParen ts q.0) q.1) ] ] ] ]
+            | inl y ↦ sound_implicit tight context d ts x lt y.0 y.1
+            | inr y ↦ (let q = kept _ _ _ _ y.1 in sound_parenthesized tight context d ts x (mark_kind mark.OpenParen ts q.0) q.1)
+          ]
+        ]
+      ]
+    ]
 
     pub sound_primary_short : (tight : Bool) (context : Context) (d : ℕ) (ts : Toks) (x : Exp × Toks) → d < most → primary_with k tight d ts ≡ Ok x → SpellsE x.0 tight context ts x.1
     sound_primary_short tight context d ts x lt e = (sound_primary tight context d ts x lt e).0
@@ -259,10 +261,12 @@ module _ (most : ℕ) where
         let q = kept (ltb d most) (on_some (unary_at tight ts) (λ o. prefix_with k o context d ts) (cond (is_word word.Consume ts) (consume_with most d ts) (post_with k tight context d ts))) _ x e in
         let lt = ltb-true d most q.0 in
         elim (some_or (unary_at tight ts) (λ o. prefix_with k o context d ts) (cond (is_word word.Consume ts) (consume_with most d ts) (post_with k tight context d ts)) _ q.1) [
-          inl o ↦ sound_prefix tight context d ts o.0 x o.1 o.2
-        | inr y ↦ elim (chosen (is_word word.Consume ts) (consume_with most d ts) (post_with k tight context d ts) _ y.1) [
-            inl z ↦ sound_consume tight context d ts x z.0 z.1
-          | inr z ↦ (let p = sound_post tight context d ts x lt z.1 in (p.0, p.1, post_low x.0 p.2)) ] ]
+          | inl o ↦ sound_prefix tight context d ts o.0 x o.1 o.2
+          | inr y ↦ elim (chosen (is_word word.Consume ts) (consume_with most d ts) (post_with k tight context d ts) _ y.1) [
+            | inl z ↦ sound_consume tight context d ts x z.0 z.1
+            | inr z ↦ (let p = sound_post tight context d ts x lt z.1 in (p.0, p.1, post_low x.0 p.2))
+          ]
+        ]
 
     pub sound_level : (n : ℕ) (context : Context) (d : ℕ) (ts : Toks) (x : Exp × Toks) → level_with most k n context d ts ≡ Ok x → SpellsE x.0 false context ts x.1 × (d + nest x.0 ≤ most) × (level_of x.0 ≤ n)
     unfolding level_with
@@ -281,7 +285,7 @@ module _ (most : ℕ) where
     sound_operator : (j : ℕ) (context : Context) (a : Exp) (d : ℕ) (ts : Toks) (o : BinaryOperator) (x : Exp × Toks) → operator_at ts ≡ Some o → operator_with most k j context a d ts o ≡ Ok x → Spelled (operators_on j context a) d x.0 ts x.1
     unfolding operator_with
     sound_operator j context a d ts o x is e start sp fit left = elim (chosen (eqb (level o) (suc j)) _ _ _ e) [
-        inr y ↦ rw (← ok_is (a, ts) x y.1) (sp, fit, right_of (chains (suc j)) _ j left)
+      | inr y ↦ rw (← ok_is (a, ts) x y.1) (sp, fit, right_of (chains (suc j)) _ j left)
       | inl y ↦ (
           let same = eqb-true (level o) (suc j) y.0 in
           let q = kept (ltb (d + nest a) most) (level_with most k j context (d + 1) (after ts) >>= λ b. next_with k (chains (suc j)) j context d (binary (till (exp_span a) (exp_span b.0)) o (here ts) a b.0) b.1) _ x y.1 in
@@ -289,13 +293,15 @@ module _ (most : ℕ) where
           let c = bind_ok (level_with most k j context (d + 1) (after ts)) _ x q.1 in
           let b = sound_level j context (d + 1) (after ts) c.0 c.1 in
           sound_next (chains (suc j)) j context d (binary (till (exp_span a) (exp_span c.0.0)) o (here ts) a c.0.0) c.0.1 start x refl c.2
-            (ts, sp, rw same left, is, refl, b.0, omega (arith, b.2, same), refl) (omega (arith, lt, b.1)) same) ]
+          (ts, sp, rw same left, is, refl, b.0, omega (arith, b.2, same), refl) (omega (arith, lt, b.1)) same)
+    ]
 
     sound_operators : (j : ℕ) (context : Context) (a : Exp) (d : ℕ) (ts : Toks) (x : Exp × Toks) → operators_with most k j context a d ts ≡ Ok x → Spelled (operators_on j context a) d x.0 ts x.1
     unfolding operators_with
     sound_operators j context a d ts x e start sp fit left = elim (some_or (operator_at ts) _ _ _ e) [
-        inl y ↦ sound_operator j context a d ts y.0 x y.1 y.2 start sp fit left
-      | inr y ↦ rw (← ok_is (a, ts) x y.1) (sp, fit, right_of (chains (suc j)) _ j left) ]
+      | inl y ↦ sound_operator j context a d ts y.0 x y.1 y.2 start sp fit left
+      | inr y ↦ rw (← ok_is (a, ts) x y.1) (sp, fit, right_of (chains (suc j)) _ j left)
+    ]
 
     sound_branches : (context : Context) (d : ℕ) (c : Exp) (start ts : Toks) (x : Exp × Toks) → kind_at ts ≡ Some (kind.Mark mark.Question) → SpellsE c false context start ts → level_of c < 6 → d + nest c < most → branches_with k context d c (after ts) ≡ Ok x → SpellsE x.0 false context start x.1 × (d + nest x.0 ≤ most)
     unfolding branches_with
@@ -313,9 +319,10 @@ module _ (most : ℕ) where
         let c = bind_ok (level_with most k 5 context d ts) (λ c. cond (is_mark mark.Question c.1) (cond (ltb (d + nest c.0) most) (branches_with k context d c.0 (after c.1)) (depth_at (after c.1))) (Ok (c.0, c.1))) x e in
         let p = sound_level 5 context d ts c.0 c.1 in
         elim (chosen (is_mark mark.Question c.0.1) (cond (ltb (d + nest c.0.0) most) (branches_with k context d c.0.0 (after c.0.1)) (depth_at (after c.0.1))) (Ok (c.0.0, c.0.1)) _ c.2) [
-          inl y ↦ (let q = kept (ltb (d + nest c.0.0) most) (branches_with k context d c.0.0 (after c.0.1)) _ x y.1 in
-            sound_branches context d c.0.0 ts c.0.1 x (mark_kind mark.Question c.0.1 y.0) p.0 (omega (arith, p.2)) (ltb-true (d + nest c.0.0) most q.0) q.1)
-        | inr y ↦ rw (← ok_is (c.0.0, c.0.1) x y.1) (p.0, p.1) ]
+          | inl y ↦ (let q = kept (ltb (d + nest c.0.0) most) (branches_with k context d c.0.0 (after c.0.1)) _ x y.1 in
+              sound_branches context d c.0.0 ts c.0.1 x (mark_kind mark.Question c.0.1 y.0) p.0 (omega (arith, p.2)) (ltb-true (d + nest c.0.0) most q.0) q.1)
+          | inr y ↦ rw (← ok_is (c.0.0, c.0.1) x y.1) (p.0, p.1)
+        ]
 
     -- ---- closures, arguments and calls
 
@@ -333,33 +340,36 @@ module _ (most : ℕ) where
     pub sound_given : (d : ℕ) (ts : Toks) (x : Given × Toks) → given_with most k d ts ≡ Ok x → SpellsG x.0 ts x.1 × (d + nest_given x.0 ≤ most)
     unfolding given_with address_with
     sound_given d ts x e = elim (chosen (is_mark mark.Ampersand ts) (cond (ltb d most) (path_with (after ts) >>= λ p. done (address (till (here ts) p.0.span) p.0, p.1)) (depth_at (after ts))) (cond (is_mark mark.OpenBrace ts) (closure_with most k d ts >>= λ c. done (closing c.0, c.1)) (expression_with most k Inside d ts >>= λ e. done (value e.0, e.1))) _ e) [
-        inl y ↦ (
+      | inl y ↦ (
           let q = kept (ltb d most) (path_with (after ts) >>= λ p. done (address (till (here ts) p.0.span) p.0, p.1)) _ x y.1 in
           let lt = ltb-true d most q.0 in
           let c = bind_ok (path_with (after ts)) (λ p. done (address (till (here ts) p.0.span) p.0, p.1)) x q.1 in
           let p = path_sound (after ts) c.0 c.1 in
           rw (← ok_is (address (till (here ts) c.0.0.span) c.0.0, c.0.1) x c.2) ((mark_kind mark.Ampersand ts y.0, p.0, refl), omega (arith, lt)))
       | inr y ↦ elim (chosen (is_mark mark.OpenBrace ts) (closure_with most k d ts >>= λ c. done (closing c.0, c.1)) (expression_with most k Inside d ts >>= λ e. done (value e.0, e.1)) _ y.1) [
-          inl z ↦ (
+        | inl z ↦ (
             let c = bind_ok (closure_with most k d ts) (λ c. done (closing c.0, c.1)) x z.1 in
             let s = sound_closure d ts c.0 z.0 c.1 in
             rw (← ok_is (closing c.0.0, c.0.1) x c.2) s)
         | inr z ↦ (
             let c = bind_ok (expression_with most k Inside d ts) (λ e. done (value e.0, e.1)) x z.1 in
             let s = sound_expression Inside d ts c.0 c.1 in
-            rw (← ok_is (value c.0.0, c.0.1) x c.2) s) ] ]
+            rw (← ok_is (value c.0.0, c.0.1) x c.2) s)
+      ]
+    ]
 
     pub sound_argument : (d : ℕ) (ts : Toks) (x : Arg × Toks) → argument_with most k d ts ≡ Ok x → (start : Toks) × Labels x.0.0 ts start × SpellsG x.0.1 start x.1 × (d + suc (nest_given x.0.1) ≤ most)
     unfolding argument_with
     sound_argument d ts x e = elim (some_or (label_at ts) (λ l. given_with most k (d + 1) (after (after ts)) >>= λ g. done ((Some l, g.0), g.1)) (given_with most k (d + 1) ts >>= λ g. done ((None, g.0), g.1)) _ e) [
-        inl l ↦ (
+      | inl l ↦ (
           let c = bind_ok (given_with most k (d + 1) (after (after ts))) (λ g. done ((Some l.0, g.0), g.1)) x l.2 in
           let p = sound_given (d + 1) (after (after ts)) c.0 c.1 in
           rw (← ok_is ((Some l.0, c.0.0), c.0.1) x c.2) (after (after ts), (l.1, refl), p.0, omega (arith, p.1)))
       | inr l ↦ (
           let c = bind_ok (given_with most k (d + 1) ts) (λ g. done ((None, g.0), g.1)) x l.1 in
           let p = sound_given (d + 1) ts c.0 c.1 in
-          rw (← ok_is ((None, c.0.0), c.0.1) x c.2) (ts, (l.0, refl), p.0, omega (arith, p.1))) ]
+          rw (← ok_is ((None, c.0.0), c.0.1) x c.2) (ts, (l.0, refl), p.0, omega (arith, p.1)))
+    ]
 
     sound_arguments : (xs : List Arg) (d : ℕ) (ts : Toks) (x : List Arg × Toks) → arguments_with most k xs d ts ≡ Ok x → Spelled (arguments_on xs) d x.0 ts x.1
     unfolding arguments_with args_in
@@ -367,16 +377,18 @@ module _ (most : ℕ) where
         let a = bind_ok (argument_with most k d ts) (λ a. cond (is_mark mark.Comma a.1) (k (arguments_on (xs ++ a.0 ∷ [])) d (after a.1)) (done (xs ++ a.0 ∷ [], a.1))) x e in
         let p = sound_argument d ts a.0 a.1 in
         elim (chosen (is_mark mark.Comma a.0.1) (k (arguments_on (xs ++ a.0.0 ∷ [])) d (after a.0.1)) (done (xs ++ a.0.0 ∷ [], a.0.1)) _ a.2) [
-          inl y ↦ (
-            let r = snd (arguments_on (xs ++ a.0.0 ∷ [])) d (after a.0.1) x y.1 in
-            (a.0.0.0, a.0.0.1, arg r.0 r.1 r.2, r.3 ∙ append_assoc xs (a.0.0 ∷ []) (args_in (arg r.0 r.1 r.2)), (p.0, a.0.1, p.1, p.2, mark_kind mark.Comma a.0.1 y.0, r.4), omega (arith, p.3, r.5)))
-        | inr y ↦ rw (← ok_is (xs ++ a.0.0 ∷ [], a.0.1) x y.1) (a.0.0.0, a.0.0.1, no_args, refl, (p.0, p.1, p.2), omega (arith, p.3)) ]
+          | inl y ↦ (
+              let r = snd (arguments_on (xs ++ a.0.0 ∷ [])) d (after a.0.1) x y.1 in
+              (a.0.0.0, a.0.0.1, arg r.0 r.1 r.2, r.3 ∙ append_assoc xs (a.0.0 ∷ []) (args_in (arg r.0 r.1 r.2)), (p.0, a.0.1, p.1, p.2, mark_kind mark.Comma a.0.1 y.0, r.4), omega (arith, p.3, r.5)))
+          | inr y ↦ rw (← ok_is (xs ++ a.0.0 ∷ [], a.0.1) x y.1) (a.0.0.0, a.0.0.1, no_args, refl, (p.0, p.1, p.2), omega (arith, p.3))
+        ]
 
     pub sound_all_arguments : (d : ℕ) (ts : Toks) (x : List Arg × Toks) → d < most → all_arguments_with most k d ts ≡ Ok x → (es : Args) × (x.0 ≡ args_in es) × SpellsA es ts x.1 × (d + suc (nest_args es) ≤ most)
     unfolding all_arguments_with args_in
     sound_all_arguments d ts x lt e = elim (chosen (is_mark mark.CloseParen ts) _ _ _ e) [
-        inl y ↦ rw (← ok_is ([], ts) x y.1) (no_args, refl, refl, omega arith)
-      | inr y ↦ (let r = sound_arguments [] d ts x y.1 in (arg r.0 r.1 r.2, r.3, r.4, r.5)) ]
+      | inl y ↦ rw (← ok_is ([], ts) x y.1) (no_args, refl, refl, omega arith)
+      | inr y ↦ (let r = sound_arguments [] d ts x y.1 in (arg r.0 r.1 r.2, r.3, r.4, r.5))
+    ]
 
     abbrev Post : Exp → Bool → Context → ℕ → Toks → Toks → Type 0
     Post e tight context d start to = SpellsE e tight context start to × (d + nest e ≤ most) × (is_post e ≡ true)
@@ -389,12 +401,13 @@ module _ (most : ℕ) where
         let q = kept (is_mark mark.CloseParen ts) (cond (closes context (after ts)) (closure_with most k (d + 1) (after ts) >>= λ c. k (calls_on context (call_closing (till (exp_span f) (clo_span c.0)) f (args_of xs) c.0)) d c.1) (k (calls_on context (call (till (exp_span f) (here ts)) f (args_of xs))) d (after ts))) _ x e in
         let close = mark_kind mark.CloseParen ts q.0 in
         elim (chosen (closes context (after ts)) _ _ _ q.1) [
-          inl y ↦ (
-            let y1 = rw args at y.1 in
-            let c = bind_ok (closure_with most k (d + 1) (after ts)) (λ c. k (calls_on context (call_closing (till (exp_span f) (clo_span c.0)) f es c.0)) d c.1) x y1 in
-            let p = sound_closure (d + 1) (after ts) c.0 (at_mark mark.OpenBrace (after ts) _ (closes_kind context (after ts) y.0)) c.1 in
-            snd (calls_on context (call_closing (till (exp_span f) (clo_span c.0.0)) f es c.0.0)) d c.0.1 x c.2 tight start (from, ts, sp, is, lp, sps, close, y.0, p.0, refl) (omega (arith, p.1)) refl (λ z. absurd cc) (λ z. absurd cc))
-        | inr y ↦ snd (calls_on context (call (till (exp_span f) (here ts)) f es)) d (after ts) x (rw args at y.1) tight start (from, ts, sp, is, lp, sps, close, refl, refl) (omega arith) refl (λ z. y.0) (λ z. absurd cc) ]
+          | inl y ↦ (
+              let y1 = rw args at y.1 in
+              let c = bind_ok (closure_with most k (d + 1) (after ts)) (λ c. k (calls_on context (call_closing (till (exp_span f) (clo_span c.0)) f es c.0)) d c.1) x y1 in
+              let p = sound_closure (d + 1) (after ts) c.0 (at_mark mark.OpenBrace (after ts) _ (closes_kind context (after ts) y.0)) c.1 in
+              snd (calls_on context (call_closing (till (exp_span f) (clo_span c.0.0)) f es c.0.0)) d c.0.1 x c.2 tight start (from, ts, sp, is, lp, sps, close, y.0, p.0, refl) (omega (arith, p.1)) refl (λ z. absurd cc) (λ z. absurd cc))
+          | inr y ↦ snd (calls_on context (call (till (exp_span f) (here ts)) f es)) d (after ts) x (rw args at y.1) tight start (from, ts, sp, is, lp, sps, close, refl, refl) (omega arith) refl (λ z. y.0) (λ z. absurd cc)
+        ]
 
     sound_call : (tight : Bool) (context : Context) (f : Exp) (d : ℕ) (ts start : Toks) (x : Exp × Toks) → call_with most k context f d ts ≡ Ok x → opens context ts ≡ true → SpellsE f tight context start ts → is_post f ≡ true → Post x.0 tight context d start x.1
     unfolding call_with
@@ -425,12 +438,15 @@ module _ (most : ℕ) where
     sound_calls : (context : Context) (f : Exp) (d : ℕ) (ts : Toks) (x : Exp × Toks) → calls_with most k context f d ts ≡ Ok x → Spelled (calls_on context f) d x.0 ts x.1
     unfolding calls_with
     sound_calls context f d ts x e tight start sp fit is closed pathed = elim (chosen (opens context ts) _ _ _ e) [
-        inl y ↦ sound_call tight context f d ts start x y.1 y.0 sp is
+      | inl y ↦ sound_call tight context f d ts start x y.1 y.0 sp is
       | inr y ↦ elim (chosen (closes context ts) _ _ _ y.1) [
-          inl z ↦ sound_closing tight context f d ts start x z.1 z.0 sp is (never (is_call f) (closes context ts) closed z.0)
+        | inl z ↦ sound_closing tight context f d ts start x z.1 z.0 sp is (never (is_call f) (closes context ts) closed z.0)
         | inr z ↦ elim (chosen (is_mark mark.Dot ts) _ _ _ z.1) [
-            inl u ↦ sound_member tight context f d ts start x u.1 u.0 sp is (never (is_path f) (is_mark mark.Dot ts) pathed u.0)
-          | inr u ↦ rw (← ok_is (f, ts) x u.1) (sp, fit, is) ] ] ]
+          | inl u ↦ sound_member tight context f d ts start x u.1 u.0 sp is (never (is_path f) (is_mark mark.Dot ts) pathed u.0)
+          | inr u ↦ rw (← ok_is (f, ts) x u.1) (sp, fit, is)
+        ]
+      ]
+    ]
 
     -- ---- statements
 
@@ -445,11 +461,12 @@ module _ (most : ℕ) where
     sound_bound : (d : ℕ) (ts : Toks) (w : Keyword) (n t : Option Name) (us : Toks) (x : Stm × Toks) → d < most → keyword_at ts ≡ Some w → binder_at (after ts) ≡ Some n → Typed t (after (after ts)) us → bound_with k d ts w n t us ≡ Ok x → Said x.0 d ts x.1
     unfolding bound_with
     sound_bound d ts w n t us x lt kw nm ty e = elim (chosen (assigns us) (k (expression Plain) (d + 1) (after us) >>= λ e. done (bound (till (here ts) (exp_span e.0)) w n t e.0, e.1)) (done (declare (till (here ts) (typed_end (here (after ts)) t)) w n t, us)) _ e) [
-        inl y ↦ (
+      | inl y ↦ (
           let c = bind_ok (k (expression Plain) (d + 1) (after us)) (λ e. done (bound (till (here ts) (exp_span e.0)) w n t e.0, e.1)) x y.1 in
           let p = snd (expression Plain) (d + 1) (after us) c.0 c.1 in
           rw (← ok_is (bound (till (here ts) (exp_span c.0.0)) w n t c.0.0, c.0.1) x c.2) (said_bound (till (here ts) (exp_span c.0.0)) w n t c.0.0 d ts us c.0.1 kw nm ty y.0 p.0 refl p.1))
-      | inr y ↦ rw (← ok_is (declare (till (here ts) (typed_end (here (after ts)) t)) w n t, us) x y.1) ((kw, nm, ty, refl), omega (arith, lt)) ]
+      | inr y ↦ rw (← ok_is (declare (till (here ts) (typed_end (here (after ts)) t)) w n t, us) x y.1) ((kw, nm, ty, refl), omega (arith, lt))
+    ]
 
     sound_let : (d : ℕ) (ts : Toks) (w : Keyword) (x : Stm × Toks) → d < most → keyword_at ts ≡ Some w → let_with k d ts w ≡ Ok x → Said x.0 d ts x.1
     unfolding let_with
@@ -516,16 +533,18 @@ module _ (most : ℕ) where
         → else_with k d ts c b us ≡ Ok x → Said x.0 d ts x.1
     unfolding else_with
     sound_else d ts mid c b us x kw spc spb fitc fitb e = elim (chosen (is_word word.Else us) _ _ _ e) [
-        inr y ↦ rw (← ok_is (if_then (till (here ts) (blk_span b)) c b, us) x y.1) ((kw, mid, spc, spb, refl), omega (arith, fitc, fitb))
+      | inr y ↦ rw (← ok_is (if_then (till (here ts) (blk_span b)) c b, us) x y.1) ((kw, mid, spc, spb, refl), omega (arith, fitc, fitb))
       | inl y ↦ elim (chosen (is_word word.If (after us)) _ _ _ y.1) [
-          inl z ↦ (
+        | inl z ↦ (
             let s = bind_ok (k statement (d + 1) (after us)) (λ s. done (else_if (till (here ts) (stm_span s.0)) c b s.0, s.1)) x z.1 in
             let p = snd statement (d + 1) (after us) s.0 s.1 in
             rw (← ok_is (else_if (till (here ts) (stm_span s.0.0)) c b s.0.0, s.0.1) x s.2) ((kw, mid, us, spc, spb, word_kind word.Else us y.0, p.0, if_is s.0.0 (after us) s.0.1 p.0 (word_kind word.If (after us) z.0), refl), omega (arith, fitc, fitb, p.1)))
         | inr z ↦ (
             let s = bind_ok (k body (d + 1) (after us)) (λ s. done (if_else (till (here ts) (blk_span s.0)) c b s.0, s.1)) x z.1 in
             let p = snd body (d + 1) (after us) s.0 s.1 in
-            rw (← ok_is (if_else (till (here ts) (blk_span s.0.0)) c b s.0.0, s.0.1) x s.2) ((kw, mid, us, spc, spb, word_kind word.Else us y.0, p.0, refl), omega (arith, fitc, fitb, p.1))) ] ]
+            rw (← ok_is (if_else (till (here ts) (blk_span s.0.0)) c b s.0.0, s.0.1) x s.2) ((kw, mid, us, spc, spb, word_kind word.Else us y.0, p.0, refl), omega (arith, fitc, fitb, p.1)))
+      ]
+    ]
 
     sound_if : (d : ℕ) (ts : Toks) (x : Stm × Toks) → is_word word.If ts ≡ true → if_with k d ts ≡ Ok x → Said x.0 d ts x.1
     unfolding if_with
@@ -550,43 +569,52 @@ module _ (most : ℕ) where
     sound_return : (d : ℕ) (ts : Toks) (x : Stm × Toks) → d < most → is_word word.Return ts ≡ true → return_with k d ts ≡ Ok x → Said x.0 d ts x.1
     unfolding return_with
     sound_return d ts x lt kw e = elim (chosen (is_bare (after ts)) _ _ _ e) [
-        inl y ↦ rw (← ok_is (return_none (here ts), after ts) x y.1) ((word_kind word.Return ts kw, refl, refl), omega arith)
+      | inl y ↦ rw (← ok_is (return_none (here ts), after ts) x y.1) ((word_kind word.Return ts kw, refl, refl), omega arith)
       | inr y ↦ (
           let c = bind_ok (k (expression Plain) (d + 1) (after ts)) (λ e. done (return_value (till (here ts) (exp_span e.0)) e.0, e.1)) x y.1 in
           let p = snd (expression Plain) (d + 1) (after ts) c.0 c.1 in
-          rw (← ok_is (return_value (till (here ts) (exp_span c.0.0)) c.0.0, c.0.1) x c.2) ((word_kind word.Return ts kw, y.0, p.0, refl), omega (arith, p.1))) ]
+          rw (← ok_is (return_value (till (here ts) (exp_span c.0.0)) c.0.0, c.0.1) x c.2) ((word_kind word.Return ts kw, y.0, p.0, refl), omega (arith, p.1)))
+    ]
 
     sound_assign : (d : ℕ) (ts us : Toks) (e : Exp) (o : AssignOperator) (x : Stm × Toks) → SpellsE e false Plain ts us → d + 1 + nest e ≤ most → assign_at us ≡ Some o → assign_with k d e us o ≡ Ok x → Said x.0 d ts x.1
     unfolding assign_with
     sound_assign d ts us e o x sp fit op r = elim (some_or (path_in e) (λ p. k (expression Plain) (d + 1) (after us) >>= λ y. done (assign (till p.span (exp_span y.0)) p o (here us) y.0, y.1)) (done (evaluate e, us)) _ r) [
-        inr y ↦ rw (← ok_is (evaluate e, us) x y.1) (sp, omega (arith, fit))
+      | inr y ↦ rw (← ok_is (evaluate e, us) x y.1) (sp, omega (arith, fit))
       | inl p ↦ (
           let spp : SpellsPath p.0 ts us = rw (path_in_is e p.0 p.1) at sp in
           let c = bind_ok (k (expression Plain) (d + 1) (after us)) (λ y. done (assign (till p.0.span (exp_span y.0)) p.0 o (here us) y.0, y.1)) x p.2 in
           let q = snd (expression Plain) (d + 1) (after us) c.0 c.1 in
-          rw (← ok_is (assign (till p.0.span (exp_span c.0.0)) p.0 o (here us) c.0.0, c.0.1) x c.2) ((us, spp, op, refl, q.0, refl), omega (arith, nest_positive e, fit, q.1))) ]
+          rw (← ok_is (assign (till p.0.span (exp_span c.0.0)) p.0 o (here us) c.0.0, c.0.1) x c.2) ((us, spp, op, refl, q.0, refl), omega (arith, nest_positive e, fit, q.1)))
+    ]
+
     sound_evaluate : (d : ℕ) (ts : Toks) (x : Stm × Toks) → evaluate_with most k d ts ≡ Ok x → Said x.0 d ts x.1
     unfolding evaluate_with
     sound_evaluate d ts x e =
         let c = bind_ok (expression_with most k Plain (d + 1) ts) (λ c. on_some (assign_at c.1) (assign_with k d c.0 c.1) (done (evaluate c.0, c.1))) x e in
         let p = sound_expression Plain (d + 1) ts c.0 c.1 in
         elim (some_or (assign_at c.0.1) (assign_with k d c.0.0 c.0.1) (done (evaluate c.0.0, c.0.1)) _ c.2) [
-          inr y ↦ rw (← ok_is (evaluate c.0.0, c.0.1) x y.1) (p.0, omega (arith, p.1))
-        | inl o ↦ sound_assign d ts c.0.1 c.0.0 o.0 x p.0 p.1 o.1 o.2 ]
+          | inr y ↦ rw (← ok_is (evaluate c.0.0, c.0.1) x y.1) (p.0, omega (arith, p.1))
+          | inl o ↦ sound_assign d ts c.0.1 c.0.0 o.0 x p.0 p.1 o.1 o.2
+        ]
 
     sound_simple : (d : ℕ) (ts : Toks) (x : Stm × Toks) → d < most → simple_with most k d ts ≡ Ok x → Said x.0 d ts x.1
     unfolding simple_with
     sound_simple d ts x lt e = elim (chosen (is_mark mark.Underscore ts) _ _ _ e) [
-        inl y ↦ sound_ignore d ts x y.0 y.1
+      | inl y ↦ sound_ignore d ts x y.0 y.1
       | inr y ↦ elim (chosen (is_word word.Discard ts) _ _ _ y.1) [
-          inl z ↦ sound_discard d ts x lt z.0 z.1
+        | inl z ↦ sound_discard d ts x lt z.0 z.1
         | inr z ↦ elim (chosen (is_word word.Break ts) _ _ _ z.1) [
-            inl u ↦ rw (← ok_is (leave (here ts), after ts) x u.1) ((word_kind word.Break ts u.0, refl, refl), omega arith)
+          | inl u ↦ rw (← ok_is (leave (here ts), after ts) x u.1) ((word_kind word.Break ts u.0, refl, refl), omega arith)
           | inr u ↦ elim (chosen (is_word word.Continue ts) _ _ _ u.1) [
-              inl v ↦ rw (← ok_is (go_on (here ts), after ts) x v.1) ((word_kind word.Continue ts v.0, refl, refl), omega arith)
+            | inl v ↦ rw (← ok_is (go_on (here ts), after ts) x v.1) ((word_kind word.Continue ts v.0, refl, refl), omega arith)
             | inr v ↦ elim (chosen (is_word word.Return ts) _ _ _ v.1) [
-                inl w ↦ sound_return d ts x lt w.0 w.1
-              | inr w ↦ sound_evaluate d ts x w.1 ] ] ] ] ]
+              | inl w ↦ sound_return d ts x lt w.0 w.1
+              | inr w ↦ sound_evaluate d ts x w.1
+            ]
+          ]
+        ]
+      ]
+    ]
 
     pub sound_statement : (d : ℕ) (ts : Toks) (x : Stm × Toks) → statement_with most k d ts ≡ Ok x → Said x.0 d ts x.1
     unfolding statement_with
@@ -594,18 +622,24 @@ module _ (most : ℕ) where
         let q = kept (ltb d most) (on_some (keyword_at ts) (let_with k d ts) (cond (is_word word.If ts) (if_with k d ts) (cond (is_word word.While ts) (while_with k d ts) (cond (is_word word.Repeat ts) (repeat_with k d ts) (cond (is_word word.For ts) (for_with k d ts) (cond (is_word word.Switch ts) (switch_with k d ts) (simple_with most k d ts))))))) _ x e in
         let lt = ltb-true d most q.0 in
         elim (some_or (keyword_at ts) (let_with k d ts) (cond (is_word word.If ts) (if_with k d ts) (cond (is_word word.While ts) (while_with k d ts) (cond (is_word word.Repeat ts) (repeat_with k d ts) (cond (is_word word.For ts) (for_with k d ts) (cond (is_word word.Switch ts) (switch_with k d ts) (simple_with most k d ts)))))) _ q.1) [
-          inl y ↦ sound_let d ts y.0 x lt y.1 y.2
-        | inr y ↦ elim (chosen (is_word word.If ts) _ _ _ y.1) [
-            inl z ↦ sound_if d ts x z.0 z.1
-          | inr z ↦ elim (chosen (is_word word.While ts) _ _ _ z.1) [
-              inl u ↦ sound_while d ts x u.0 u.1
-            | inr u ↦ elim (chosen (is_word word.Repeat ts) _ _ _ u.1) [
-                inl v ↦ sound_repeat d ts x v.0 v.1
-              | inr v ↦ elim (chosen (is_word word.For ts) _ _ _ v.1) [
-                  inl w ↦ sound_for d ts x w.0 w.1
-                | inr w ↦ elim (chosen (is_word word.Switch ts) _ _ _ w.1) [
-                    inl f ↦ sound_switch d ts x lt f.0 f.1
-                  | inr f ↦ sound_simple d ts x lt f.1 ] ] ] ] ] ]
+          | inl y ↦ sound_let d ts y.0 x lt y.1 y.2
+          | inr y ↦ elim (chosen (is_word word.If ts) _ _ _ y.1) [
+            | inl z ↦ sound_if d ts x z.0 z.1
+            | inr z ↦ elim (chosen (is_word word.While ts) _ _ _ z.1) [
+              | inl u ↦ sound_while d ts x u.0 u.1
+              | inr u ↦ elim (chosen (is_word word.Repeat ts) _ _ _ u.1) [
+                | inl v ↦ sound_repeat d ts x v.0 v.1
+                | inr v ↦ elim (chosen (is_word word.For ts) _ _ _ v.1) [
+                  | inl w ↦ sound_for d ts x w.0 w.1
+                  | inr w ↦ elim (chosen (is_word word.Switch ts) _ _ _ w.1) [
+                    | inl f ↦ sound_switch d ts x lt f.0 f.1
+                    | inr f ↦ sound_simple d ts x lt f.1
+                  ]
+                ]
+              ]
+            ]
+          ]
+        ]
 
     pub sound_separated : (d : ℕ) (ts : Toks) (x : Stm × Toks) → separated_with most k d ts ≡ Ok x → (mid : Toks) × SpellsS x.0 ts mid × Sep (is_return x.0) mid x.1 × (d + nest_stm x.0 ≤ most)
     unfolding separated_with
@@ -618,12 +652,13 @@ module _ (most : ℕ) where
     sound_statements : (xs : List Stm) (d : ℕ) (ts : Toks) (x : List Stm × Toks) → statements_with most k xs d ts ≡ Ok x → Spelled (statements_on xs) d x.0 ts x.1
     unfolding statements_with stms_in
     sound_statements xs d ts x e le = elim (chosen (is_mark mark.CloseBrace ts) _ _ _ e) [
-        inl y ↦ rw (← ok_is (xs, ts) x y.1) (no_stms, sym (append-nil xs), (mark_kind mark.CloseBrace ts y.0, refl), omega (arith, le))
+      | inl y ↦ rw (← ok_is (xs, ts) x y.1) (no_stms, sym (append-nil xs), (mark_kind mark.CloseBrace ts y.0, refl), omega (arith, le))
       | inr y ↦ (
           let s = bind_ok (separated_with most k d ts) (λ s. k (statements_on (xs ++ s.0 ∷ [])) d s.1) x y.1 in
           let p = sound_separated d ts s.0 s.1 in
           let r = snd (statements_on (xs ++ s.0.0 ∷ [])) d s.0.1 x s.2 le in
-          (stm s.0.0 r.0, r.1 ∙ append_assoc xs (s.0.0 ∷ []) (stms_in r.0), (p.0, s.0.1, p.1, p.2, r.2), omega (arith, p.3, r.3))) ]
+          (stm s.0.0 r.0, r.1 ∙ append_assoc xs (s.0.0 ∷ []) (stms_in r.0), (p.0, s.0.1, p.1, p.2, r.2), omega (arith, p.3, r.3)))
+    ]
 
     -- ---- clauses
 
@@ -633,10 +668,11 @@ module _ (most : ℕ) where
         let s = bind_ok (separated_with most k d ts) (λ s. cond (ends_clause s.1) (done (xs ++ s.0 ∷ [], s.1)) (k (clause_on (xs ++ s.0 ∷ [])) d s.1)) x e in
         let p = sound_separated d ts s.0 s.1 in
         elim (chosen (ends_clause s.0.1) (done (xs ++ s.0.0 ∷ [], s.0.1)) (k (clause_on (xs ++ s.0.0 ∷ [])) d s.0.1) _ s.2) [
-          inl y ↦ rw (← ok_is (xs ++ s.0.0 ∷ [], s.0.1) x y.1) (s.0.0, no_stms, refl, (p.0, p.1, p.2), omega (arith, p.3))
-        | inr y ↦ (
-            let r = snd (clause_on (xs ++ s.0.0 ∷ [])) d s.0.1 x y.1 in
-            (s.0.0, stm r.0 r.1, r.2 ∙ append_assoc xs (s.0.0 ∷ []) (stms_in (stm r.0 r.1)), (p.0, s.0.1, p.1, p.2, r.3), omega (arith, p.3, r.4))) ]
+          | inl y ↦ rw (← ok_is (xs ++ s.0.0 ∷ [], s.0.1) x y.1) (s.0.0, no_stms, refl, (p.0, p.1, p.2), omega (arith, p.3))
+          | inr y ↦ (
+              let r = snd (clause_on (xs ++ s.0.0 ∷ [])) d s.0.1 x y.1 in
+              (s.0.0, stm r.0 r.1, r.2 ∙ append_assoc xs (s.0.0 ∷ []) (stms_in (stm r.0 r.1)), (p.0, s.0.1, p.1, p.2, r.3), omega (arith, p.3, r.4)))
+        ]
 
     abbrev Headed : When → ℕ → Toks → Toks → Type 0
     Headed h d from to = SpellsH h from to × (d ≤ most → d + nest_when h ≤ most)
@@ -644,23 +680,25 @@ module _ (most : ℕ) where
     sound_where : (p : Pat) (ps : Pats) (d : ℕ) (ts us : Toks) (x : When × Toks) → kind_at ts ≡ Some (kind.Word word.Case) → SpellsPats (pat p ps) (after ts) us → where_with k d (pats_in (pat p ps)) us ≡ Ok x → Headed x.0 d ts x.1
     unfolding where_with pats_in
     sound_where p no_pats d ts us x kw sp e = elim (chosen (is_word word.Where us) _ _ _ e) [
-        inr y ↦ rw (← ok_is (case_of (pat p no_pats), us) x y.1) ((kw, sp), λ le. omega (arith, le))
+      | inr y ↦ rw (← ok_is (case_of (pat p no_pats), us) x y.1) ((kw, sp), λ le. omega (arith, le))
       | inl y ↦ (
           let c = bind_ok (k (expression Plain) d (after us)) (λ e. done (case_where p e.0, e.1)) x y.1 in
           let q = snd (expression Plain) d (after us) c.0 c.1 in
-          rw (← ok_is (case_where p c.0.0, c.0.1) x c.2) ((kw, us, sp, word_kind word.Where us y.0, q.0), λ le. q.1)) ]
+          rw (← ok_is (case_where p c.0.0, c.0.1) x c.2) ((kw, us, sp, word_kind word.Where us y.0, q.0), λ le. q.1))
+    ]
     sound_where p (pat q ps) d ts us x kw sp e = rw (← ok_is (case_of (pat p (pats_of (pats_in (pat q ps)))), us) x e, pats_list ps) ((kw, sp), λ le. omega (arith, le))
 
     pub sound_head : (d : ℕ) (ts : Toks) (x : When × Toks) → head_with k d ts ≡ Ok x → Headed x.0 d ts x.1
     unfolding head_with
     sound_head d ts x e = elim (chosen (is_word word.Case ts) (read_pattern (patterns_on []) (after ts) >>= λ ps. where_with k d ps.0 ps.1) (cond (is_word word.Default ts) (done (default, after ts)) (syntax_at ts)) _ e) [
-        inl y ↦ (
+      | inl y ↦ (
           let c = bind_ok (read_pattern (patterns_on []) (after ts)) (λ ps. where_with k d ps.0 ps.1) x y.1 in
           let s = pats_sound (after ts) c.0 c.1 in
           sound_where s.0 s.1 d ts c.0.1 x (word_kind word.Case ts y.0) s.3 (rw s.2 at c.2))
       | inr y ↦ (
           let q = kept (is_word word.Default ts) (done (default, after ts)) _ x y.1 in
-          rw (← ok_is (default, after ts) x q.1) ((word_kind word.Default ts q.0, refl), λ le. omega (arith, le))) ]
+          rw (← ok_is (default, after ts) x q.1) ((word_kind word.Default ts q.0, refl), λ le. omega (arith, le)))
+    ]
 
     abbrev Claused : Cla → ℕ → Toks → Toks → Type 0
     Claused c d from to = (colon : Toks) × SpellsH c.1 from colon × (kind_at colon ≡ Some (kind.Mark mark.Colon)) × SpellsN c.2 (after colon) to × (c.0 ≡ till (here from) (stms_end (here colon) c.2)) × (d ≤ most → d + nest_when c.1 ≤ most) × (d + nest_stms c.2 ≤ most)
@@ -679,12 +717,13 @@ module _ (most : ℕ) where
     sound_clauses : (xs : List Cla) (d : ℕ) (ts : Toks) (x : List Cla × Toks) → clauses_with k xs d ts ≡ Ok x → Spelled (clauses_on xs) d x.0 ts x.1
     unfolding clauses_with clauses_in
     sound_clauses xs d ts x e le = elim (chosen (is_mark mark.CloseBrace ts) _ _ _ e) [
-        inl y ↦ rw (← ok_is (xs, ts) x y.1) (no_clauses, sym (append-nil xs), (mark_kind mark.CloseBrace ts y.0, refl), omega (arith, le))
+      | inl y ↦ rw (← ok_is (xs, ts) x y.1) (no_clauses, sym (append-nil xs), (mark_kind mark.CloseBrace ts y.0, refl), omega (arith, le))
       | inr y ↦ (
           let c = bind_ok (clause_with k d ts) (λ c. k (clauses_on (xs ++ c.0 ∷ [])) d c.1) x y.1 in
           let p = sound_clause d ts c.0 c.1 in let low = p.5 le in
           let r = snd (clauses_on (xs ++ c.0.0 ∷ [])) d c.0.1 x c.2 le in
-          (clause c.0.0.0 c.0.0.1 c.0.0.2 r.0, r.1 ∙ append_assoc xs (c.0.0 ∷ []) (clauses_in r.0), (p.0, c.0.1, p.1, p.2, p.3, p.4, r.2), omega (arith, low, p.6, r.3))) ]
+          (clause c.0.0.0 c.0.0.1 c.0.0.2 r.0, r.1 ∙ append_assoc xs (c.0.0 ∷ []) (clauses_in r.0), (p.0, c.0.1, p.1, p.2, p.3, p.4, r.2), omega (arith, low, p.6, r.3)))
+    ]
 
     sound_block : (d : ℕ) (ts : Toks) (x : Blk × Toks) → block_with most k d ts ≡ Ok x → SpellsB x.0 ts x.1 × (d + nest_blk x.0 ≤ most)
     unfolding block_with

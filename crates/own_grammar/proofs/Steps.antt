@@ -71,8 +71,9 @@ some_syn None f m n e = absurd cc
 -- a test of the limit
 pub lim : {A : Type 0} (a b : ℕ) (r : Result A Fault) (m n : ℕ) → cond (ltb a b) r (Err (Depth m)) ≡ Err (Depth n) → ((a < b) × (r ≡ Err (Depth n))) ⊎ ((b ≤ a) × (m ≡ n))
 lim {A} a b r m n e = elim (leb_tells (suc a) b) [
-    inl y ↦ inl (y.1, (rw y.0 at e))
-  | inr y ↦ inr (omega (arith, y.1), depth_is {A = A} m n (rw y.0 at e)) ]
+  | inl y ↦ inl (y.1, (rw y.0 at e))
+  | inr y ↦ inr (omega (arith, y.1), depth_is {A = A} m n (rw y.0 at e))
+]
 
 pub no_ok : {A : Type 0} (x : A) (n : ℕ) → done x ≡ Err (Depth n) → ⊥
 no_ok x n e = absurd cc
@@ -83,7 +84,6 @@ no_syntax m n e = absurd cc
 -- ---- two readings that are alike
 
 module _ (loose : Type 0) where
-
   -- equal, or, where that is let go, the first is too deep
   pub data Near {A : Type 0} (r r' : Result A Fault) : Type 0 where
     same : r ≡ r' → Near r r'
@@ -106,7 +106,6 @@ module _ (loose : Type 0) where
   near_some None f f' r r' p q = q refl
 
   module _ (most most' : ℕ) (limits : (most ≡ most') ⊎ (loose × (most ≤ most'))) where
-
     near_limit_by : {A : Type 0} (n m : ℕ) (x x' : Result A Fault) (l : (most ≡ most') ⊎ (loose × (most ≤ most'))) → (n < most → Near x x') → ((ltb n most ≡ true) × (n < most)) ⊎ (ltb n most ≡ false)
         → Near (cond (ltb n most) x (Err (Depth m))) (cond (ltb n most') x' (Err (Depth m)))
     near_limit_by n m x x' (inl e) h (inl y) = rw (← e, y.0) (h y.1)

@@ -242,8 +242,8 @@ next_with k false j context d e ts = Ok (e, ts)
 unfoldable pub operator_with : ℕ → Reader → ℕ → Context → Exp → ℕ → Toks → BinaryOperator → Read Exp
 operator_with most k j context a d ts o =
     if nat_eq (level o) (suc j) then (if nat_lt (d + nest a) most then
-        (level_with most k j context (d + 1) (after ts) >>= λ b. next_with k (chains (suc j)) j context d (binary (till (exp_span a) (exp_span b.0)) o (here ts) a b.0) b.1)
-        else depth_at (after ts))
+    (level_with most k j context (d + 1) (after ts) >>= λ b. next_with k (chains (suc j)) j context d (binary (till (exp_span a) (exp_span b.0)) o (here ts) a b.0) b.1)
+    else depth_at (after ts))
     else Ok (a, ts)
 
 unfoldable pub operators_with : ℕ → Reader → ℕ → Context → Exp → ℕ → Toks → Read Exp

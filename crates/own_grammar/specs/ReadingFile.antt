@@ -56,8 +56,8 @@ type_with ts = if is_mark mark.OpenParen ts then (bracketed_with inner_with ts >
 unfoldable pub labelled_with : Toks → Read (Label × Name)
 labelled_with ts = if is_mark mark.Underscore ts then on_some (name_at (after ts)) (λ n. Ok ((label.Omitted, n), after (after ts))) (syntax_at (after ts))
     else on_some (name_at ts)
-      (λ l. on_some (name_at (after ts)) (λ n. Ok ((label.Other l, n), after (after ts))) (Ok ((label.Same, l), after ts)))
-      (syntax_at ts)
+    (λ l. on_some (name_at (after ts)) (λ n. Ok ((label.Other l, n), after (after ts))) (Ok ((label.Same, l), after ts)))
+    (syntax_at ts)
 
 unfoldable pub parameter_with : Toks → Read Parameter
 parameter_with ts = labelled_with ts >>= λ l. wanted (is_mark mark.Colon l.1) l.1
@@ -86,8 +86,8 @@ method_with most ts = on_some (changing_at ts)
 unfoldable pub field_with : Toks → Keyword → Read Member
 field_with ts k = on_some (name_at (after ts))
     (λ n. wanted (is_mark mark.Colon (after (after ts))) (after (after ts)) (on_some (name_at (after (after (after ts))))
-        (λ t. Ok (field (record { span = till (here ts) (here (after (after (after ts)))); keyword = k; name = n; written = t }), after (after (after (after ts)))))
-        (syntax_at (after (after (after ts))))))
+    (λ t. Ok (field (record { span = till (here ts) (here (after (after (after ts)))); keyword = k; name = n; written = t }), after (after (after (after ts)))))
+    (syntax_at (after (after (after ts))))))
     (syntax_at (after ts))
 
 unfoldable pub initializer_with : ℕ → Toks → Read Member
@@ -107,8 +107,8 @@ name_with ts = on_some (name_at ts) (λ n. Ok (n, after ts)) (syntax_at ts)
 unfoldable pub item_with : Toks → Read CaseItem
 item_with ts = on_some (name_at ts)
     (λ n. if is_mark mark.OpenParen (after ts)
-        then (listed_on name_with [] (after (after ts)) >>= λ ns. wanted (is_mark mark.CloseParen ns.1) ns.1 (Ok (record { span = till (here ts) (here ns.1); name = n; payloads = ns.0 }, after ns.1)))
-        else Ok (record { span = till (here ts) (here ts); name = n; payloads = [] }, after ts))
+    then (listed_on name_with [] (after (after ts)) >>= λ ns. wanted (is_mark mark.CloseParen ns.1) ns.1 (Ok (record { span = till (here ts) (here ns.1); name = n; payloads = ns.0 }, after ns.1)))
+    else Ok (record { span = till (here ts) (here ts); name = n; payloads = [] }, after ts))
     (syntax_at ts)
 
 unfoldable pub cases_with : Toks → Read Member
