@@ -1,0 +1,9 @@
+pub mod Tests
+pub mod Nesting
+pub mod Spells
+pub mod Partial
+pub mod Reading
+pub mod Lists
+pub mod Declarations
+pub mod PartialFile
+pub mod ReadingFile
