@@ -22,7 +22,7 @@ use Rattle.own_runs.specs.Events.{ended_by_discard, Item, output_of, traced_outp
 use Rattle.own_runs.specs.Loops.{Flow, onward, broke, continued, returned, then_go, caught, while_turns, repeat_turns, for_turns}
 use Rattle.own_runs.specs.Patterns.{chosen, bound_parts, end_rest}
 use Rattle.own_runs.specs.Store.{binding, result, Location, Slot, absent, holds, refers, runs, State, Act, or_found, with_at, slot_at, set_slot, begin, finish, peek, put, read, vacate, move, root_at, below, hold, take_turn, take_level, note}
-use Rattle.own_runs.specs.Values.{Val, int, bool, unit, struct, variant, hole, vacant, opened, Part, field}
+use Rattle.own_runs.specs.Values.{Val, int, bool, unit, struct, variant, hole, is_whole, vacant, opened, Part, field}
 use Rattle.own_runs.specs.Ways.{Way, gives, traps, stops, errs, strays, ◌>>=◌, ◌>>◌, pure, trap, stop, err, stray, pick, or_stray}
 
 abbrev pub EMPTY_RANGE : ℕ
@@ -259,13 +259,10 @@ module _ (types : Types) (program : Program) where
     v ← move (root_at me (binding x))
     completed (tracked (types.shape b.ty)) v
 
+  -- A body with a result does not fall off its end, where no result waits.
   abbrev pub result_value : ℕ → Bool → Act Val
   result_value me false = pure unit
-  result_value me true = peek (root_at me result) >>= or_result
-    where
-      or_result : Val → Act Val
-      or_result hole = stray
-      or_result v = pure v
+  result_value me true = peek (root_at me result) >>= λ v. pick (is_whole v) (pure v) stray
 
   abbrev pub body_value : ℕ → TBody → BodyKind → Act Val
   body_value me body kind.Initializer = made_self me body.params
