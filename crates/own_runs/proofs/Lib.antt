@@ -1,3 +1,4 @@
 pub mod Spelled
 pub mod Rows
 pub mod MoreRows
+pub mod Related

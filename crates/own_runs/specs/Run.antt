@@ -50,6 +50,24 @@ connected connective.And false second = pure (bool false)
 connected connective.Or true second = pure (bool true)
 connected connective.Or false second = second
 
+-- ---- the bindings of a clause, where those of a guarded one are two where it consumes its subject
+
+-- of a binding that is two, the second one, which the body sees
+abbrev pub owned : List (ℕ × List Part) → List (ℕ × List Part)
+owned bs = map (λ b. (suc b.0, b.1)) bs
+
+-- bindings that are made between the guard and the body
+abbrev pub late_parts : Bool → TWhen → List (ℕ × List Part) → List (ℕ × List Part)
+late_parts twice (case_of ps) bs = []
+late_parts twice (case_where p guard) bs = if twice then owned bs else []
+late_parts twice default bs = []
+
+-- those that the body sees
+abbrev pub clause_names : Bool → TWhen → List ℕ
+clause_names twice (case_of ps) = patterns_bindings ps
+clause_names twice (case_where p guard) = if twice then map suc (pattern_bindings p) else pattern_bindings p
+clause_names twice default = []
+
 module _ (types : Types) (program : Program) (run : Call) (me level : ℕ) where
   -- ---- expressions
 
@@ -142,26 +160,10 @@ module _ (types : Types) (program : Program) (run : Call) (me level : ℕ) where
   bind_all [] l = pure tt
   bind_all (b ∷ bs) l = bind_part b.0 (below l b.1) >> bind_all bs l
 
-  -- of a binding that is two, the second one, which the body sees
-  abbrev pub owned : List (ℕ × List Part) → List (ℕ × List Part)
-  owned bs = map (λ b. (suc b.0, b.1)) bs
-
   abbrev pub holds_guard : TWhen → Act Bool
   holds_guard (case_of ps) = pure true
   holds_guard (case_where p guard) = test guard
   holds_guard default = pure true
-
-  -- bindings that are made between the guard and the body
-  abbrev pub late_parts : Bool → TWhen → List (ℕ × List Part) → List (ℕ × List Part)
-  late_parts twice (case_of ps) bs = []
-  late_parts twice (case_where p guard) bs = if twice then owned bs else []
-  late_parts twice default bs = []
-
-  -- those that the body sees
-  abbrev pub clause_names : Bool → TWhen → List ℕ
-  clause_names twice (case_of ps) = patterns_bindings ps
-  clause_names twice (case_where p guard) = if twice then map suc (pattern_bindings p) else pattern_bindings p
-  clause_names twice default = []
 
   -- what is left of a consumed subject is destroyed before the body runs
   abbrev pub take_apart : Bool → TPat → TExp → Location → Act (Unit {0})
@@ -294,10 +296,9 @@ module _ (types : Types) (program : Program) where
     come_back f
     body_value me body body.kind
 
-  -- A call takes a turn and a level.
-  abbrev pub enter : ℕ → Call → (number : ℕ) → TBody → Option ℕ → List Passed → ℕ → Act Val
-  enter depth run k body maker ps level = do
-    take_turn
+  -- A call once it has its turn takes a level.
+  abbrev pub entered : ℕ → Call → (number : ℕ) → TBody → Option ℕ → List Passed → ℕ → Act Val
+  entered depth run k body maker ps level = do
     take_level (level + 1)
     slots ← entry_slots body.kind body.params ps
     me ← begin (record { body = k; maker = maker; slots = slots; temporaries = λ node. hole; result = hole })
@@ -305,11 +306,11 @@ module _ (types : Types) (program : Program) where
     finish
     pure v
 
-  -- Calls to a depth of turns, which no run with fewer turns left reaches.
+  -- Calls to a depth of turns, which no run with fewer turns left reaches. A call takes a turn.
   abbrev pub run_to : ℕ → Call
   run_to zero k maker ps level = stop
   run_to (suc depth) k maker ps level =
-      or_stray (slice_get program.bodies k) >>= λ body. enter depth (run_to depth) k body maker ps level
+      or_stray (slice_get program.bodies k) >>= λ body. take_turn >> entered depth (run_to depth) k body maker ps level
 
 -- ---- runs
 
