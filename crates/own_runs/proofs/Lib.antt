@@ -1,4 +1,9 @@
 pub mod Spelled
 pub mod Rows
 pub mod MoreRows
+pub mod WayRules
 pub mod Related
+pub mod Growing
+pub mod GoingOn
+pub mod Depths
+pub mod Proved

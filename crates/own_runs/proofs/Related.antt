@@ -28,7 +28,7 @@ use Rattle.own_table.specs.Types.{Types, Shape, Shapes, Payloads, no_shapes, no_
 use Rattle.own_table.specs.Types as shape
 use Rattle.own_table.specs.Within.{node_of, path_of, locals}
 use Rattle.own_runs.specs.Arithmetic.{is_int, in_range, divided, compute, wrapped, compare_truths, as_int, as_bool, compare_vals}
-use Rattle.own_runs.specs.Calls.{slot_of, slots_of, value_given, values_given, spelled, item_of, items_of, note_use, lend, lend_all, construct, binding_at, shape_of_binding, declarer, owner_of, through, locate, take_value, closure_in, closure_of, give, pass_value, lend_place, pass_borrowed, pass_receiver, pass_inout, pass_closure, pass, call_closure, apply, end_lent}
+use Rattle.own_runs.specs.Calls.{slot_of, slots_of, value_given, values_given, spelled, item_of, items_of, note_use, lend, lend_all, construct, binding_at, shape_of_binding, declarer, owner_of, through, locate, take_value, closure_in, closure_of, give, text_of, pass_item, lend_place, pass_borrowed, pass_receiver, pass_inout, pass_closure, pass, call_closure, apply, end_lent}
 use Rattle.own_runs.specs.Destruction.{Passed, given, lent, lent_temporary, closed, words, Call, present_case, run_deinit, destroy_tracked, destroy, destroy_parts, destroy_case, end_value}
 use Rattle.own_runs.specs.Events.{Event, made, used, Item, happened}
 use Rattle.own_runs.specs.Loops.{Flow, onward, broke, continued, returned, then_go, after_turn, while_turns, repeat_turns, for_turns}
@@ -51,7 +51,6 @@ pub record IsPlain (by : State → State) : Type 0 where
 pub record IsClosed (Rel : (A : Type 0) → Act A → Act A → Type 0) : Type 1 where
   pub gives_ : {A : Type 0} (a : A) → Rel _ (pure a) (pure a)
   pub traps_ : {A : Type 0} (code at : ℕ) → Rel _ (trap {A = A} code at) (trap code at)
-  pub stops_ : {A : Type 0} → Rel _ (stop {A = A}) stop
   pub errs_ : {A : Type 0} → Rel _ (err {A = A}) err
   pub strays_ : {A : Type 0} → Rel _ (stray {A = A}) stray
   pub looks : {A : Type 0} (at : State → A) → IsTurnless at → Rel _ (look at) (look at)
@@ -455,9 +454,9 @@ module _ (Rel : (A : Type 0) → Act A → Act A → Type 0) (closed_ : IsClosed
       pub give_r : (e : TExp) {p q : Act Val} → Rel _ p q → Rel _ (give types program run me level e p) (give types program run' me level e q)
       give_r e h = then_r (then_r h (λ v. hold_r me (node_of e) v)) (λ l. pure_r _)
 
-      pub pass_value_r : (e : TExp) {p q : Act Val} → Rel _ p q → Rel _ (pass_value types program run me level e p) (pass_value types program run' me level e q)
-      pass_value_r (text at bytes) h = pure_r _
-      pass_value_r e h = give_r e h
+      pub pass_item_r : (o : Option (List ℕ)) (e : TExp) {p q : Act Val} → Rel _ p q → Rel _ (pass_item types program run me level o e p) (pass_item types program run' me level o e q)
+      pass_item_r (Some bytes) e h = pure_r _
+      pass_item_r None e h = give_r e h
 
       pub lend_place_r : (p : TypedPath) → Rel _ (lend_place types program run me level p) (lend_place types program run' me level p)
       lend_place_r p = then_r (locate_r p.place) (λ l. pure_r _)
@@ -480,7 +479,7 @@ module _ (Rel : (A : Type 0) → Act A → Act A → Type 0) (closed_ : IsClosed
       pass_closure_r e = closed_.strays_
 
       pub pass_r : (how : Passing) (e : TExp) {p q : Act Val} → Rel _ p q → Rel _ (pass types program run me level how e p) (pass types program run' me level how e q)
-      pass_r passing.ByValue e h = pass_value_r e h
+      pass_r passing.ByValue e h = pass_item_r (text_of e) e h
       pass_r passing.Consume e h = give_r e h
       pass_r passing.Borrow e h = pass_borrowed_r (path_of e) e h
       pass_r passing.Inout e h = pass_inout_r e

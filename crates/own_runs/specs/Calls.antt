@@ -10,7 +10,7 @@ use Rattle.own_tree.specs.declared.typed.Passing.TheVariants as passing
 use Rattle.own_tree.specs.declared.typed.Target.{Target}
 use Rattle.own_tree.specs.declared.typed.Target.TheVariants as target
 use Rattle.own_tree.specs.declared.typed.TypedPath.{TypedPath}
-use Rattle.own_tree.specs.TypedSource.{TExp, text, address, closure, function, Program}
+use Rattle.own_tree.specs.TypedSource.{TExp, text, parenthesized, address, closure, function, Program}
 use Rattle.own_table.specs.Types.{Types, Shape, copyable, tracked}
 use Rattle.own_table.specs.Within.{node_of, path_of}
 use Rattle.own_runs.specs.Destruction.{Passed, given, lent, lent_temporary, closed, words, Call, end_value}
@@ -111,6 +111,12 @@ abbrev pub construct : Bool → ℕ → Vals → Act Val
 construct true type fields = born type fields
 construct false type fields = pure (struct type None fields)
 
+-- a text, which stands only in a `print`, also in parentheses
+abbrev pub text_of : TExp → Option (List ℕ)
+text_of (text at bytes) = Some bytes
+text_of (parenthesized at e) = text_of e
+text_of e = None
+
 module _ (types : Types) (program : Program) (run : Call) (me level : ℕ) where
   -- ---- names
 
@@ -159,10 +165,10 @@ module _ (types : Types) (program : Program) (run : Call) (me level : ℕ) where
   abbrev pub give : TExp → Act Val → Act Passed
   give e value = value >>= hold me (node_of e) >>= λ l. pure (given l)
 
-  -- a text, which stands only in a `print`, or a value
-  abbrev pub pass_value : TExp → Act Val → Act Passed
-  pass_value (text at bytes) value = pure (words bytes)
-  pass_value e value = give e value
+  -- a text, or a value
+  abbrev pub pass_item : Option (List ℕ) → TExp → Act Val → Act Passed
+  pass_item (Some bytes) e value = pure (words bytes)
+  pass_item None e value = give e value
 
   abbrev pub lend_place : TypedPath → Act Passed
   lend_place p = locate p.place >>= λ l. pure (lent l)
@@ -188,7 +194,7 @@ module _ (types : Types) (program : Program) (run : Call) (me level : ℕ) where
   pass_closure e = stray
 
   abbrev pub pass : Passing → TExp → Act Val → Act Passed
-  pass passing.ByValue e value = pass_value e value
+  pass passing.ByValue e value = pass_item (text_of e) e value
   pass passing.Consume e value = give e value
   pass passing.Borrow e value = pass_borrowed (path_of e) e value
   pass passing.Inout e value = pass_inout e

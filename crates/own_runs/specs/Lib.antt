@@ -8,3 +8,5 @@ pub mod Destruction
 pub mod Calls
 pub mod Patterns
 pub mod Run
+pub mod Once
+pub mod Laws

@@ -36,17 +36,24 @@ caught (returned at) = returned at
 -- `while`'s condition, and before each body of the others.
 abbrev pub while_turns : ℕ → (condition : Act Bool) → (body : Act Flow) → Act Flow
 while_turns zero condition body = stop
-while_turns (suc depth) condition body =
-    take_turn >> condition >>= λ holds. pick holds (body >>= λ f. after_turn f (while_turns depth condition body)) (pure onward)
+while_turns (suc depth) condition body = do
+  take_turn
+  holds ← condition
+  pick holds (body >>= λ f. after_turn f (while_turns depth condition body)) (pure onward)
 
 abbrev pub repeat_turns : ℕ → (condition : Act Bool) → (body : Act Flow) → Act Flow
 repeat_turns zero condition body = stop
-repeat_turns (suc depth) condition body =
-    take_turn >> body >>= λ f.
-    after_turn f (condition >>= λ holds. pick holds (repeat_turns depth condition body) (pure onward))
+repeat_turns (suc depth) condition body = do
+  take_turn
+  f ← body
+  after_turn f (condition >>= λ holds. pick holds (repeat_turns depth condition body) (pure onward))
+
+-- a turn of a `for`, and what follows
+abbrev pub one_turn : Act Flow → Act Flow → Act Flow
+one_turn body rest = take_turn >> (body >>= λ f. after_turn f rest)
 
 -- each number from the first to the last, both included
 abbrev pub for_turns : ℕ → (body : ℤ → Act Flow) → (first last : ℤ) → Act Flow
 for_turns zero body first last = stop
 for_turns (suc depth) body first last =
-    pick (int_le first last) (take_turn >> body first >>= λ f. after_turn f (for_turns depth body (first +ℤ pos 1) last)) (pure onward)
+    pick (int_le first last) (one_turn (body first) (for_turns depth body (first +ℤ pos 1) last)) (pure onward)

@@ -1,3 +1,7 @@
-//! What a run of a typed program does. The definitions stand in `specs/`; the functions here name what is
-//! proved of them.
+//! What a run of a typed program does: the store, destruction, events and the run itself. The definitions
+//! stand in `specs/`; the functions here name what is proved of them.
 #![tactic(auto)]
+
+pub mod laws;
+
+pub use laws::{depths_agree, outputs_go_on, runs_go_on, stops_out_of_turns};

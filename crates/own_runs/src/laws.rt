@@ -1,0 +1,23 @@
+//! Laws of the definitions. Each function does nothing; its contract is the law.
+
+ghost use Rattle.own_runs.specs.Laws.{DepthsAgree, OutputsGoOn, RunsGoOn, StopsOutOfTurns};
+
+/// With more turns a run that was cut goes on, and any other is the same.
+pub fn runs_go_on()
+    ensures { RunsGoOn }
+{}
+
+/// With more turns the output, the traced output and the events stand at the front of what they become.
+pub fn outputs_go_on()
+    ensures { OutputsGoOn }
+{}
+
+/// The depth to which calls and loops are unfolded makes no difference where it is greater than the turns.
+pub fn depths_agree()
+    ensures { DepthsAgree }
+{}
+
+/// A run that stops for want of turns has none left.
+pub fn stops_out_of_turns()
+    ensures { StopsOutOfTurns }
+{}
