@@ -17,9 +17,9 @@ use Rattle.own_table.specs.Findings.{IsSameBreak, BreaksAtOp, BreaksAtReturn, Is
 use Rattle.own_table.specs.Fixed.{Access, ops_in, breaks_O7, breaks_O8, breaks_O9, broken, if_so, op_breaks, ops_break, capture_breaks, captures_break, literals_break, conflict, conflicts_with, all_conflicts, held, claims, args_break, calls_break, changes_subject, accesses_change_subject, clauses_break, switch_breaks, switches_break, fixed_breaks}
 use Rattle.own_table.specs.Laws.{FindingsHaveOneCause}
 use Rattle.own_table.specs.Makers.{BodyUses, uses_of}
-use Rattle.own_table.specs.Ops.{opening, body_ops, clauses_ops, is_copyable}
+use Rattle.own_table.specs.Ops.{opening, body_ops, clauses_ops}
 use Rattle.own_table.specs.Places.{whole}
-use Rattle.own_table.specs.Types.{Types}
+use Rattle.own_table.specs.Types.{is_copyable, Types}
 use Rattle.own_table.specs.Within.{exps_in_block, stms_in_block, literals, path_of}
 use Rattle.own_table.proofs.Members.{In, in_contains}
 use Rattle.own_table.proofs.Orders.{neither_after, span_apart, span_on}
@@ -139,7 +139,7 @@ module _ (types : Types) (program : Program) where
 
   switch_fixed : (subject : Option TypedPath) (os : List Op) (cs : TClauses) → AllFixed (switch_breaks types program subject os cs)
   switch_fixed None os cs = tt
-  switch_fixed (Some subject) os cs = by_copyable (is_copyable types program subject.at.ty)
+  switch_fixed (Some subject) os cs = by_copyable (is_copyable types subject.at.ty)
     where
       by_copyable : (b : Bool) → AllFixed (if b then [] else clauses_break types program subject os cs)
       by_copyable true = tt

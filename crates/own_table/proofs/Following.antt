@@ -85,8 +85,7 @@ turns_are A B first second fa fb (suc j) choices =
     let a = first choices in
     let b = second a.left in
     let later = turns_of first second j b.left in
-    let inner = rest_of_loop b.end b.left later in
-    (
+    let inner = rest_of_loop b.end b.left later in (
       a.ops,
       a.end,
       (rest_of_loop a.end a.left (joined b inner)).ops,

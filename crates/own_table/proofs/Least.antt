@@ -47,7 +47,7 @@ makes kind.End = false
 
 -- ---- places
 
-both_true : (a b : Bool) → (a && b) ≡ true → (a ≡ true) × (b ≡ true)
+pub both_true : (a b : Bool) → (a && b) ≡ true → (a ≡ true) × (b ≡ true)
 both_true true b e = (refl, e)
 both_true false b e = (e, absurd (subst (λ c. IsFalse c) e tt))
   where
@@ -115,7 +115,7 @@ least_in s (u ∷ ts) l t (inr h) = least_in s ts l.1 t h
 
 -- ---- causes
 
-given_up : (k : OpKind) → IsGivenUp k → gives_up k ≡ true
+pub given_up : (k : OpKind) → IsGivenUp k → gives_up k ≡ true
 given_up kind.Consume g = refl
 given_up kind.Discard g = refl
 given_up kind.Declare g = absurd g

@@ -137,7 +137,7 @@ fields (k ∷ ks) (l ∷ ls) = elim (numbers k l) [
 same_place : (p q : Place) → p.binding ≡ q.binding → p.fields ≡ q.fields → p ≡ q
 same_place p q a b = λ j. record { binding = a j; fields = b j }
 
-places : (p q : Place) → PlaceBefore p q ⊎ (p ≡ q) ⊎ PlaceBefore q p
+pub places : (p q : Place) → PlaceBefore p q ⊎ (p ≡ q) ⊎ PlaceBefore q p
 places p q = elim (numbers p.binding q.binding) [
   | inl less ↦ inl (inl less)
   | inr (inr more) ↦ inr (inr (inl more))
@@ -151,7 +151,7 @@ places p q = elim (numbers p.binding q.binding) [
 same_span : (a b : Span) → a.start ≡ b.start → a.end ≡ b.end → a ≡ b
 same_span a b p q = λ j. record { start = p j; end = q j }
 
-spans : (a b : Span) → SpanBefore a b ⊎ (a ≡ b) ⊎ SpanBefore b a
+pub spans : (a b : Span) → SpanBefore a b ⊎ (a ≡ b) ⊎ SpanBefore b a
 spans a b = elim (numbers a.start b.start) [
   | inl less ↦ inl (inl less)
   | inr (inr more) ↦ inr (inr (inl more))

@@ -2,10 +2,25 @@
 use Rattle.std.proofs.Common.{refl}
 use Rattle.own_tree.specs.declared.graph.LeafFact.TheVariants as fact
 use Rattle.own_table.specs.Findings.{IsPathFinding, IsFixedFinding, IsFinding}
-use Rattle.own_table.specs.Laws.{PlacesAreOrdered, FindingsAreOrdered, FindingsHaveOneCause, FindingsAreOneList, PathFindingsAreOneList, FixedFindingsAreOneList, LeavesHaveOneFact, TracesStay, TracesGoOn, TracesExist, TracesSplit}
+use Rattle.own_table.specs.Laws.{ShapesUnfold, LeavesAreApart, OpenedLeavesAreApart, PartsAreNoLarger, PlacesAreOrdered, FindingsAreOrdered, FindingsHaveOneCause, SoundBreaksNothing, FindingsAreOneList, PathFindingsAreOneList, FixedFindingsAreOneList, LeavesHaveOneFact, TracesStay, TracesGoOn, TracesExist, TracesSplit}
 use Rattle.own_table.proofs.Causes.{one_cause}
+use Rattle.own_table.proofs.Leaves.{leaves_are_apart as apart, opened_leaves_are_apart as opened_apart, parts_are_no_larger as no_larger}
 use Rattle.own_table.proofs.Orders.{places_are_ordered as places, findings_are_ordered as findings, one_list}
+use Rattle.own_table.proofs.Sound.{breaks_nothing}
+use Rattle.own_table.proofs.Unfolding.{shapes_unfold as by_declaration}
 use Rattle.own_table.proofs.TraceFacts.{more_turns, longer_trace, some_trace, splits}
+
+pub shapes_unfold : ShapesUnfold
+shapes_unfold ds none k d e = by_declaration ds none k d e
+
+pub leaves_are_apart : LeavesAreApart
+leaves_are_apart s p q a b h = apart s p q a b h
+
+pub opened_leaves_are_apart : OpenedLeavesAreApart
+opened_leaves_are_apart s p q a b h = opened_apart s p q a b h
+
+pub parts_are_no_larger : PartsAreNoLarger
+parts_are_no_larger ss k = no_larger ss k
 
 pub places_are_ordered : PlacesAreOrdered
 places_are_ordered = places
@@ -24,6 +39,9 @@ path_findings_are_one_list uses fs gs a b = one_list (IsPathFinding uses) fs gs 
 
 pub fixed_findings_are_one_list : FixedFindingsAreOneList
 fixed_findings_are_one_list types program k body fs gs a b = one_list (IsFixedFinding types program k body) fs gs a b
+
+pub sound_breaks_nothing : SoundBreaksNothing
+sound_breaks_nothing types program sound k body found = breaks_nothing types program sound k body found
 
 pub leaves_have_one_fact : LeavesHaveOneFact
 leaves_have_one_fact uses o leaf fact.Always fact.Always a b = refl

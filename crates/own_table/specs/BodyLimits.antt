@@ -18,9 +18,9 @@ use Rattle.own_tree.specs.TypedSource.{TExp, number, text, truth, path, parenthe
 use Rattle.own_table.specs.Captures.{captures, first_passing, other_passings}
 use Rattle.own_table.specs.Limits.{Counted, counted, first_over}
 use Rattle.own_table.specs.Makers.{BodyUses, tree_of, uses_of}
-use Rattle.own_table.specs.Ops.{is_copyable, body_ops}
+use Rattle.own_table.specs.Ops.{body_ops}
 use Rattle.own_table.specs.Places.{whole, covers}
-use Rattle.own_table.specs.Types.{Types, slots}
+use Rattle.own_table.specs.Types.{is_copyable, Types, slots}
 use Rattle.own_table.specs.Within.{node_of, exps_in_block, stms_in_block}
 
 -- ---- M9: the slots of a body
@@ -109,7 +109,7 @@ module _ (types : Types) (program : Program) where
   -- of a statement by itself: the bound and the turn of a `for`, and the copyable subject of a `switch`
   abbrev pub stm_slots : TStm → ℕ
   stm_slots (loop_for at x low o mark high b) = 2
-  stm_slots (switch at e cs) = if is_copyable types program (node_of e).ty then ty_slots (node_of e).ty else 0
+  stm_slots (switch at e cs) = if is_copyable types (node_of e).ty then ty_slots (node_of e).ty else 0
   stm_slots (let_in at x e) = 0
   stm_slots (declare at x) = 0
   stm_slots (ignore at e) = 0

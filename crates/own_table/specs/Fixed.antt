@@ -19,9 +19,9 @@ use Rattle.own_tree.specs.declared.typed.TypedPath.{TypedPath}
 use Rattle.own_tree.specs.OpSource.{Ops, op, nothing, next, either, loop, catch, scope, break_at, continue_at, return_at, halt, in_order}
 use Rattle.own_tree.specs.TypedSource.{TExp, number, text, truth, path, parenthesized, consumed, negated, inverted, arithmetic, wrapping, compared, logic, choice, member, call, address, closure, function, TExps, no_exps, exp, TStm, switch, TClauses, TBody, Program}
 use Rattle.own_table.specs.Captures.{Captured, captures, first_passing, other_passings}
-use Rattle.own_table.specs.Ops.{use_by, opening, is_copyable, exp_ops, clauses_ops, body_ops}
+use Rattle.own_table.specs.Ops.{use_by, opening, exp_ops, clauses_ops, body_ops}
 use Rattle.own_table.specs.Places.{whole, overlaps, is_strictly_above}
-use Rattle.own_table.specs.Types.{Types, leaves, opened_leaves, passes_let}
+use Rattle.own_table.specs.Types.{is_copyable, Types, leaves, opened_leaves, passes_let}
 use Rattle.own_table.specs.Within.{exps_in, exps_in_block, exps_in_clauses, stms_in_block, literals, path_of}
 
 -- the ops that stand in an op tree, but for the Ends of its scopes
@@ -284,7 +284,7 @@ accesses_change_subject subject (a ∷ as') =
 module _ (types : Types) (program : Program) where
   -- a path that is passed holds its place, borrowed or to be changed
   abbrev pub held_path : Passing → TypedPath → List Access
-  held_path passing.Borrow p = if is_copyable types program p.at.ty then [] else access false p.place p.at.span ∷ []
+  held_path passing.Borrow p = if is_copyable types p.at.ty then [] else access false p.place p.at.span ∷ []
   held_path passing.Inout p = access true p.place p.at.span ∷ []
   held_path passing.ByValue p = []
   held_path passing.Consume p = []
@@ -292,33 +292,33 @@ module _ (types : Types) (program : Program) where
 
   -- what an argument holds from its evaluation until the call returns
   abbrev pub held : Passing → TExp → List Access
-  held passing_ (path p) = held_path passing_ p
-  held passing_ (parenthesized at e) = held passing_ e
-  held passing_ (address p) = access true p.place p.at.span ∷ []
-  held passing_ (closure at k) = captured_at at (captures program k)
-  held passing_ (number at n) = []
-  held passing_ (text at t) = []
-  held passing_ (truth at b) = []
-  held passing_ (consumed at p) = []
-  held passing_ (negated at mark e) = []
-  held passing_ (inverted at e) = []
-  held passing_ (arithmetic at o mark a b) = []
-  held passing_ (wrapping at o a b) = []
-  held passing_ (compared at o a b) = []
-  held passing_ (logic at o a b) = []
-  held passing_ (choice at c a b) = []
-  held passing_ (member at e k) = []
-  held passing_ (call at to es passings) = []
-  held passing_ (function at x) = []
+  held given (path p) = held_path given p
+  held given (parenthesized at e) = held given e
+  held given (address p) = access true p.place p.at.span ∷ []
+  held given (closure at k) = captured_at at (captures program k)
+  held given (number at n) = []
+  held given (text at t) = []
+  held given (truth at b) = []
+  held given (consumed at p) = []
+  held given (negated at mark e) = []
+  held given (inverted at e) = []
+  held given (arithmetic at o mark a b) = []
+  held given (wrapping at o a b) = []
+  held given (compared at o a b) = []
+  held given (logic at o a b) = []
+  held given (choice at c a b) = []
+  held given (member at e k) = []
+  held given (call at to es passings) = []
+  held given (function at x) = []
 
   -- what is changed while an argument is evaluated: by each Consume, each Inout and each changing Capture
   abbrev pub changes_in : Passing → TExp → List Access
-  changes_in passing_ e = changes_by (ops_in (exp_ops types program e (use_by passing_))) ++ changes_by_literals program (literals (exps_in e))
+  changes_in given e = changes_by (ops_in (exp_ops types program e (use_by given))) ++ changes_by_literals program (literals (exps_in e))
 
   -- What may conflict with an earlier argument. An access that changes is held by the Inout or the Capture that
   -- makes it, so it is among the changes already.
   abbrev pub claims : Passing → TExp → List Access
-  claims passing_ e = changes_in passing_ e ++ only_borrows (held passing_ e)
+  claims given e = changes_in given e ++ only_borrows (held given e)
 
   -- the conflicts of arguments with those before them, which hold so much
   abbrev pub args_break : List Access → TExps → List Passing → List Finding
@@ -338,7 +338,7 @@ module _ (types : Types) (program : Program) where
   -- A `switch` borrows a plain path of noncopyable type, and consumes any other subject (SE-0432).
   abbrev pub switch_breaks : Option TypedPath → List Op → TClauses → List Finding
   switch_breaks None os cs = []
-  switch_breaks (Some subject) os cs = if is_copyable types program subject.at.ty then [] else clauses_break subject os cs
+  switch_breaks (Some subject) os cs = if is_copyable types subject.at.ty then [] else clauses_break subject os cs
 
   abbrev pub switches_break : List TStm → List Finding
   switches_break [] = []

@@ -1,17 +1,22 @@
 -- What is proved of these definitions, for contracts to cite.
-use Rattle.std.specs.Prelude.{◌≡◌, ℕ, ◌≤◌, ◌⊎◌, List, ◌++◌}
+use Rattle.std.specs.Prelude.{◌≡◌, ℕ, ◌≤◌, ◌⊎◌, true, Contains, IsTrue, List, ◌++◌, slice_get, Some}
 use Rattle.own_tree.specs.declared.finding.Finding.{Finding}
+use Rattle.own_tree.specs.declared.finding.Rule.{Rule}
+use Rattle.own_tree.specs.declared.span.Span.{Span}
 use Rattle.own_tree.specs.declared.graph.LeafFact.{LeafFact}
 use Rattle.own_tree.specs.declared.op.Op.{Op}
 use Rattle.own_tree.specs.declared.place.Place.{Place}
+use Rattle.own_tree.specs.declared.place.Ty.TheVariants as type
 use Rattle.own_tree.specs.OpSource.{Ops, next}
 use Rattle.own_tree.specs.TypedSource.{TBody, Program}
 use Rattle.own_table.specs.Facts.{IsFact}
-use Rattle.own_table.specs.Findings.{Precedes, IsSameBreak, IsBodyFinding, ArePathFindings, AreFixedFindings, AreFindings}
-use Rattle.own_table.specs.Makers.{BodyUses}
-use Rattle.own_table.specs.Places.{PlaceBefore}
+use Rattle.own_table.specs.Findings.{Precedes, IsSameBreak, BreaksAtOp, BreaksAtReturn, FallsOff, IsBodyFinding, ArePathFindings, AreFixedFindings, AreFindings, IsSound}
+use Rattle.own_table.specs.Fixed.{fixed_breaks}
+use Rattle.own_table.specs.Makers.{BodyUses, uses_of}
+use Rattle.own_table.specs.Ops.{has_result}
+use Rattle.own_table.specs.Places.{is_prefix, PlaceBefore}
 use Rattle.own_table.specs.Traces.{Completion, goes_on, breaks, continues, returns, halts, cut, IsTrace}
-use Rattle.own_table.specs.Types.{Types}
+use Rattle.own_table.specs.Types.{Types, Shape, Shapes, leaves, opened_leaves, slots, all_slots, shape_at, Declared, declared_shape, types_declared, NoneContainsItself}
 
 -- ---- orders
 
@@ -27,6 +32,26 @@ PlacesAreOrdered = IsOrder PlaceBefore (λ p q. p ≡ q)
 -- two findings that are not in order have one rule, one span and one place
 abbrev pub FindingsAreOrdered : Type 0
 FindingsAreOrdered = IsOrder Precedes IsSameBreak
+
+-- ---- types
+
+-- where no type contains itself, a declared type has the shape of its declaration, by the shapes of what it contains
+abbrev pub ShapesUnfold : Type 0
+ShapesUnfold =
+    (ds : List Declared) → NoneContainsItself ds → (k : ℕ) (d : Declared) → slice_get ds k ≡ Some d
+    → (types_declared ds).shape (type.Named k) ≡ declared_shape ds (types_declared ds).shape k d
+
+-- no leaf of a type lies at or below another one
+abbrev pub LeavesAreApart : Type 0
+LeavesAreApart = (s : Shape) (p q : List ℕ) → Contains (leaves s) p → Contains (leaves s) q → IsTrue (is_prefix p q) → p ≡ q
+
+-- nor one of `self` in `init`
+abbrev pub OpenedLeavesAreApart : Type 0
+OpenedLeavesAreApart = (s : Shape) (p q : List ℕ) → Contains (opened_leaves s) p → Contains (opened_leaves s) q → IsTrue (is_prefix p q) → p ≡ q
+
+-- a part has no more slots than the struct or the case that it is in
+abbrev pub PartsAreNoLarger : Type 0
+PartsAreNoLarger = (ss : Shapes) (k : ℕ) → slots (shape_at ss k) ≤ all_slots ss
 
 -- ---- findings
 
@@ -50,6 +75,19 @@ abbrev pub FixedFindingsAreOneList : Type 0
 FixedFindingsAreOneList =
     (types : Types) (program : Program) (k : ℕ) (body : TBody) (fs gs : List Finding)
     → AreFixedFindings types program k body fs → AreFixedFindings types program k body gs → fs ≡ gs
+
+-- no rule is broken in a body: on no way, at no return, and by no single use
+pub record BreaksNothing (types : Types) (program : Program) (k : ℕ) (body : TBody) : Type 0 where
+  pub at_op : (r : Rule) (at : Span) (place : Place) (cause : Span) → BreaksAtOp (uses_of types program k body) r at place cause → ⊥
+  pub at_return : (r : Rule) (at : Span) (leaf : Place) (cause : Span) → BreaksAtReturn (uses_of types program k body) r at leaf cause → ⊥
+  pub falls : has_result body.result ≡ true → FallsOff (uses_of types program k body) → ⊥
+  pub fixed : (f : Finding) → Contains (fixed_breaks types program k body) f → ⊥
+
+-- A program without findings breaks no rule: where one is broken, there is a break with a least cause.
+abbrev pub SoundBreaksNothing : Type 0
+SoundBreaksNothing =
+    (types : Types) (program : Program) → IsSound types program → (k : ℕ) (body : TBody) → slice_get program.bodies k ≡ Some body
+    → BreaksNothing types program k body
 
 -- ---- facts
 

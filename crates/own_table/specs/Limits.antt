@@ -10,7 +10,7 @@ use Rattle.own_tree.specs.declared.tree.Root.{Root}
 use Rattle.own_tree.specs.declared.tree.Root.TheVariants as root
 use Rattle.own_tree.specs.Source.{Exp, number, text, truth, path, implicit_member, parenthesized, consumed, prefix, binary, choice, member, call, call_closing, call_closure, Given, value, address, closing, Args, no_args, arg, Clo, closure, Stm, let_in, declare, assign, ignore, discard_self, if_then, if_else, else_if, loop_while, loop_repeat, loop_for, switch, leave, go_on, return_none, return_value, evaluate, Stms, no_stms, stm, When, case_of, case_where, default, Clauses, no_clauses, clause, Blk, block, Fun, Member, field, initializer, deinitializer, method, cases, Decl, struct_of, enum_of, function, File}
 use Rattle.own_table.specs.Ops.{opening}
-use Rattle.own_table.specs.Types.{Types, Declared, declared_types, field_types, case_types, slots}
+use Rattle.own_table.specs.Types.{Types, Declared, declared_types, contained, slots}
 
 -- a count, and the place that is named where it is too large
 pub record Counted : Type 0 where
@@ -39,14 +39,6 @@ type_names (d ∷ ds) = d.name.span ∷ type_names ds
 abbrev pub part_counts : List Declared → List Counted
 part_counts [] = []
 part_counts (d ∷ ds) = counted (if d.is_enum then length d.cases else length d.fields) d.name.span ∷ part_counts ds
-
-abbrev pub all_case_types : List Declared → List CaseItem → List Ty
-all_case_types ds [] = []
-all_case_types ds (c ∷ cs) = case_types ds c ++ all_case_types ds cs
-
--- the types that a type contains at once
-abbrev pub contained : List Declared → Declared → List Ty
-contained ds d = if d.is_enum then all_case_types ds d.cases else field_types ds d
 
 abbrev pub are_within : Types → ℕ → List Ty → Bool
 are_within types largest [] = true

@@ -17,7 +17,7 @@ use Rattle.own_tree.specs.OpSource.{Ops, op, nothing, either, loop, catch, scope
 use Rattle.own_tree.specs.TypedSource.{TExp, number, text, truth, path, parenthesized, consumed, negated, inverted, arithmetic, wrapping, compared, logic, choice, member, call, address, closure, function, TExps, no_exps, exp, TWhen, case_of, case_where, default, TStm, let_in, declare, ignore, assign, update, discard_self, if_then, if_else, else_if, loop_while, loop_repeat, loop_for, switch, leave, go_on, return_none, return_value, evaluate, TStms, no_stms, stm, TClauses, no_clauses, clause, TBlk, block, TBody, Program}
 use Rattle.own_table.specs.Captures.{captures, first_passing, other_passings}
 use Rattle.own_table.specs.Places.{whole}
-use Rattle.own_table.specs.Types.{Types, copyable}
+use Rattle.own_table.specs.Types.{Types, is_copyable}
 use Rattle.own_table.specs.Within.{node_of, path_of, pattern_bindings, patterns_bindings, locals}
 
 -- ---- how a path that stands somewhere is used
@@ -128,7 +128,7 @@ is_literal_true e = false
 
 -- A condition that is the literal `true` has no false side.
 abbrev pub branch : TExp → Ops → Ops → Ops
-branch c then_ else_ = if is_literal_true c then then_ else either then_ else_
+branch c first second = if is_literal_true c then first else either first second
 
 abbrev pub has_result : Ty → Bool
 has_result type.Unit = false
@@ -154,12 +154,9 @@ module _ (types : Types) (program : Program) where
   abbrev pub make : At → ℕ → Ops
   make at x = at_name kind.Make at.id x (slice_get program.bindings x)
 
-  abbrev pub is_copyable : Ty → Bool
-  is_copyable ty = copyable (types.shape ty)
-
   -- a path that is used so
   abbrev pub path_ops : Use → TypedPath → Ops
-  path_ops use_ p = op_at (kind_of use_ (is_copyable p.at.ty)) p.place p.at
+  path_ops how p = op_at (kind_of how (is_copyable types p.at.ty)) p.place p.at
 
   -- a closure literal uses each binding that it captures, at its `{`
   abbrev pub capture_ops : At → ℕ → Ops
@@ -172,7 +169,7 @@ module _ (types : Types) (program : Program) where
   -- Whether a clause with a guard binds its names twice, once borrowed for the guard and once owned for its body: the
   -- `switch` consumes a noncopyable subject.
   abbrev pub binds_twice : TExp → Bool
-  binds_twice subject = not (is_copyable (node_of subject).ty) && not (is_path (path_of subject))
+  binds_twice subject = not (is_copyable types (node_of subject).ty) && not (is_path (path_of subject))
 
   abbrev pub turn_binding : Option ℕ → List ℕ
   turn_binding None = []
@@ -180,30 +177,30 @@ module _ (types : Types) (program : Program) where
 
   abbrev mutual
     pub exp_ops : TExp → Use → Ops
-    exp_ops (number at n) use_ = nothing
-    exp_ops (text at t) use_ = nothing
-    exp_ops (truth at b) use_ = nothing
-    exp_ops (path p) use_ = path_ops use_ p
-    exp_ops (parenthesized at e) use_ = exp_ops e use_
-    exp_ops (consumed at p) use_ = op_at kind.Consume p.place p.at
-    exp_ops (negated at mark e) use_ = exp_ops e as_value
-    exp_ops (inverted at e) use_ = exp_ops e as_value
-    exp_ops (arithmetic at o mark a b) use_ = in_order (exp_ops a as_value ∷ exp_ops b as_value ∷ [])
-    exp_ops (wrapping at o a b) use_ = in_order (exp_ops a as_value ∷ exp_ops b as_value ∷ [])
-    exp_ops (compared at o a b) use_ = in_order (exp_ops a as_value ∷ exp_ops b as_value ∷ [])
-    exp_ops (logic at o a b) use_ = in_order (exp_ops a as_value ∷ either (exp_ops b as_value) nothing ∷ [])
-    exp_ops (choice at c a b) use_ = in_order (exp_ops c as_value ∷ either (exp_ops a as_value) (exp_ops b as_value) ∷ [])
-    exp_ops (member at e k) use_ = exp_ops e as_value
-    exp_ops (call at to es passings) use_ = in_order (args_ops es passings)
-    exp_ops (address p) use_ = op_at kind.Inout p.place p.at
-    exp_ops (closure at k) use_ = capture_ops at k
-    exp_ops (function at x) use_ = nothing
+    exp_ops (number at n) how = nothing
+    exp_ops (text at t) how = nothing
+    exp_ops (truth at b) how = nothing
+    exp_ops (path p) how = path_ops how p
+    exp_ops (parenthesized at e) how = exp_ops e how
+    exp_ops (consumed at p) how = op_at kind.Consume p.place p.at
+    exp_ops (negated at mark e) how = exp_ops e as_value
+    exp_ops (inverted at e) how = exp_ops e as_value
+    exp_ops (arithmetic at o mark a b) how = in_order (exp_ops a as_value ∷ exp_ops b as_value ∷ [])
+    exp_ops (wrapping at o a b) how = in_order (exp_ops a as_value ∷ exp_ops b as_value ∷ [])
+    exp_ops (compared at o a b) how = in_order (exp_ops a as_value ∷ exp_ops b as_value ∷ [])
+    exp_ops (logic at o a b) how = in_order (exp_ops a as_value ∷ either (exp_ops b as_value) nothing ∷ [])
+    exp_ops (choice at c a b) how = in_order (exp_ops c as_value ∷ either (exp_ops a as_value) (exp_ops b as_value) ∷ [])
+    exp_ops (member at e k) how = exp_ops e as_value
+    exp_ops (call at to es passings) how = in_order (args_ops es passings)
+    exp_ops (address p) how = op_at kind.Inout p.place p.at
+    exp_ops (closure at k) how = capture_ops at k
+    exp_ops (function at x) how = nothing
 
     pub args_ops : TExps → List Passing → List Ops
     args_ops no_exps ps = []
     args_ops (exp e es) ps = exp_ops e (use_by (first_passing ps)) ∷ args_ops es (other_passings ps)
 
-  -- the ops of a clause before its body's own statements, by its head: the body in its scope
+  -- a clause by its head, with the ops of its statements
   abbrev pub clause_ops : TExp → At → Span → TWhen → TStms → List Ops → Ops
   clause_ops subject at span (case_of ps) ss body =
       clause_tree (map (make at) (patterns_bindings ps)) None (scope_of (patterns_bindings ps ++ locals ss) (closing at.span) body) span

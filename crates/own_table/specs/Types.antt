@@ -1,5 +1,5 @@
 -- What types are made of: by recursion on the declarations of a text, and then on the shape that a type unfolds to.
-use Rattle.std.specs.Prelude.{ℕ, zero, suc, ◌+◌, max, Bool, true, false, not, ◌||◌, if◌then◌else◌, List, [], ◌∷◌, ◌++◌, length, map, slice_get, slice_index_or, Option, Some, None, codes}
+use Rattle.std.specs.Prelude.{◌≡◌, ℕ, zero, suc, ◌+◌, max, Contains, Bool, true, false, not, ◌||◌, if◌then◌else◌, List, [], ◌∷◌, ◌++◌, length, map, slice_get, slice_index_or, Option, Some, None, codes}
 use Rattle.std.specs.Str.{bytes_eq}
 use Rattle.own_tree.specs.declared.place.Ty.{Ty}
 use Rattle.own_tree.specs.declared.place.Ty.TheVariants as type
@@ -187,6 +187,9 @@ pub record Types : Type 0 where
   -- how many are declared
   pub count : ℕ
 
+abbrev pub is_copyable : Types → Ty → Bool
+is_copyable types ty = copyable (types.shape ty)
+
 -- the declaration of a struct or an enum
 pub record Declared : Type 0 where
   pub name : Name
@@ -265,6 +268,14 @@ field_types ds d = map (λ f. written_type ds f.written.text) d.fields
 abbrev pub case_types : List Declared → CaseItem → List Ty
 case_types ds c = map (λ name. written_type ds name.text) c.payloads
 
+abbrev pub all_case_types : List Declared → List CaseItem → List Ty
+all_case_types ds [] = []
+all_case_types ds (c ∷ cs) = case_types ds c ++ all_case_types ds cs
+
+-- the types that a type contains at once
+abbrev pub contained : List Declared → Declared → List Ty
+contained ds d = if d.is_enum then all_case_types ds d.cases else field_types ds d
+
 abbrev pub head_of : ℕ → Declared → TypeHead
 head_of k d = record { number = k; noncopyable = d.noncopyable; has_deinit = d.has_deinit; changes = map (λ f. is_var f.keyword) d.fields }
 
@@ -324,3 +335,13 @@ types_declared ds = record {
 
 unfoldable pub types_of : File → Types
 types_of file = types_declared (declared_types file.declarations)
+
+-- ---- no type contains itself (T03)
+
+-- one type contains another in so many steps from part to part
+abbrev pub ContainsIn : List Declared → ℕ → ℕ → ℕ → Type 0
+ContainsIn ds zero j k = j ≡ k
+ContainsIn ds (suc steps) j k = (d : Declared) × (i : ℕ) × (slice_get ds j ≡ Some d) × Contains (contained ds d) (type.Named i) × ContainsIn ds steps i k
+
+abbrev pub NoneContainsItself : List Declared → Type 0
+NoneContainsItself ds = (steps k : ℕ) → ContainsIn ds (suc steps) k k → ⊥

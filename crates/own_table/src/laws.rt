@@ -1,6 +1,26 @@
 //! Laws of the definitions. Each function does nothing; its contract is the law.
 
-ghost use Rattle.own_table.specs.Laws.{FindingsAreOneList, FindingsAreOrdered, FindingsHaveOneCause, FixedFindingsAreOneList, LeavesHaveOneFact, PathFindingsAreOneList, PlacesAreOrdered, TracesExist, TracesGoOn, TracesSplit, TracesStay};
+ghost use Rattle.own_table.specs.Laws.{FindingsAreOneList, FindingsAreOrdered, FindingsHaveOneCause, FixedFindingsAreOneList, LeavesAreApart, LeavesHaveOneFact, OpenedLeavesAreApart, PartsAreNoLarger, PathFindingsAreOneList, PlacesAreOrdered, ShapesUnfold, SoundBreaksNothing, TracesExist, TracesGoOn, TracesSplit, TracesStay};
+
+/// Where no type contains itself, a declared type has the shape of its declaration.
+pub fn shapes_unfold()
+    ensures { ShapesUnfold }
+{}
+
+/// No leaf of a type lies at or below another one, so what is done to a part of a leaf makes and ends none.
+pub fn leaves_are_apart()
+    ensures { LeavesAreApart }
+{}
+
+/// No leaf of `self` in `init` lies at or below another one.
+pub fn opened_leaves_are_apart()
+    ensures { OpenedLeavesAreApart }
+{}
+
+/// A part has no more slots than what it is in.
+pub fn parts_are_no_larger()
+    ensures { PartsAreNoLarger }
+{}
 
 /// The order of places is total.
 pub fn places_are_ordered()
@@ -30,6 +50,11 @@ pub fn path_findings_are_one_list()
 /// A body has one list of findings of the fixed rules, O7 to O11.
 pub fn fixed_findings_are_one_list()
     ensures { FixedFindingsAreOneList }
+{}
+
+/// In a program without findings no rule is broken, on any way and by any single use.
+pub fn sound_breaks_nothing()
+    ensures { SoundBreaksNothing }
 {}
 
 /// A leaf has one fact at most before an op.
