@@ -1,5 +1,5 @@
 -- A depth of calls and loops that is greater than the turns makes no difference, since these are used up first.
-use Rattle.std.proofs.Common.{◌≡◌, ℕ, zero, suc, ◌≤◌, ◌<◌, ℤ, pos, List, [], ◌∷◌, Option, Some, None, refl, sym, ap, subst, ◌∙◌, arith}
+use Rattle.std.proofs.Common.{◌≡◌, ℕ, zero, suc, ◌≤◌, ◌<◌, ℤ, pos, List, [], Option, None, refl, sym, ap, subst, ◌∙◌, arith}
 use Rattle.std.specs.Prelude.{Bool, ◌+ℤ◌, int_le, slice_get}
 use Rattle.own_tree.specs.TypedSource.{Program}
 use Rattle.own_table.specs.Types.{Types}
@@ -7,8 +7,8 @@ use Rattle.own_runs.specs.Destruction.{Passed}
 use Rattle.own_runs.specs.Loops.{Flow, onward, while_turns, repeat_turns, for_turns}
 use Rattle.own_runs.specs.Run.{behaviour, run_to, run_of, start}
 use Rattle.own_runs.specs.Store.{State, Act, take_turn, turn_of}
-use Rattle.own_runs.specs.Ways.{Way, gives, traps, stops, errs, strays, after, ◌>>=◌, ◌>>◌, pure}
-use Rattle.own_runs.proofs.Related.{IsPlain, IsClosed, AreLoopsRelated, then_r, next_r, pick_r, or_stray_r, pure_r, after_turn_r, entered_r}
+use Rattle.own_runs.specs.Ways.{Way, gives, traps, stops, errs, strays, after, ◌>>=◌, ◌>>◌}
+use Rattle.own_runs.proofs.Related.{IsPlain, IsClosed, AreLoopsRelated, then_r, pick_r, or_stray_r, pure_r, after_turn_r, entered_r}
 use Rattle.own_runs.proofs.Growing.{state_of}
 
 -- a step that stops has used up its turns
@@ -119,18 +119,18 @@ module _ (d : ℕ) where
   while_agrees (suc x) zero lx ly h k = absurd (omega (arith, ly))
   while_agrees (suc x) (suc y) lx ly h k =
       turn_then (then_r (Agrees x) (agreeing x) (fewer (omega (arith, lx)) h) (λ holds.
-        pick_r (Agrees x) (agreeing x) holds
-        (then_r (Agrees x) (agreeing x) (fewer (omega (arith, lx)) k) (λ f.
-          after_turn_r (Agrees x) (agreeing x) f (while_agrees x y (omega (arith, lx)) (omega (arith, ly)) h k)))
-        (pure_r (Agrees x) (agreeing x) onward)))
+      pick_r (Agrees x) (agreeing x) holds
+      (then_r (Agrees x) (agreeing x) (fewer (omega (arith, lx)) k) (λ f.
+      after_turn_r (Agrees x) (agreeing x) f (while_agrees x y (omega (arith, lx)) (omega (arith, ly)) h k)))
+      (pure_r (Agrees x) (agreeing x) onward)))
 
   repeat_agrees : (x y : ℕ) → x ≤ d → x ≤ y → {c c' : Act Bool} {b b' : Act Flow} → Agrees d _ c c' → Agrees d _ b b' → Agrees x _ (repeat_turns x c b) (repeat_turns y c' b')
   repeat_agrees zero y lx ly h k = stop_agrees
   repeat_agrees (suc x) zero lx ly h k = absurd (omega (arith, ly))
   repeat_agrees (suc x) (suc y) lx ly h k =
       turn_then (then_r (Agrees x) (agreeing x) (fewer (omega (arith, lx)) k) (λ f.
-        after_turn_r (Agrees x) (agreeing x) f (then_r (Agrees x) (agreeing x) (fewer (omega (arith, lx)) h) (λ holds.
-          pick_r (Agrees x) (agreeing x) holds (repeat_agrees x y (omega (arith, lx)) (omega (arith, ly)) h k) (pure_r (Agrees x) (agreeing x) onward)))))
+      after_turn_r (Agrees x) (agreeing x) f (then_r (Agrees x) (agreeing x) (fewer (omega (arith, lx)) h) (λ holds.
+      pick_r (Agrees x) (agreeing x) holds (repeat_agrees x y (omega (arith, lx)) (omega (arith, ly)) h k) (pure_r (Agrees x) (agreeing x) onward)))))
 
   for_agrees : (x y : ℕ) → x ≤ d → x ≤ y → {b b' : ℤ → Act Flow} → ((n : ℤ) → Agrees d _ (b n) (b' n)) → (first last : ℤ) → Agrees x _ (for_turns x b first last) (for_turns y b' first last)
   for_agrees zero y lx ly h first last = stop_agrees
@@ -138,7 +138,7 @@ module _ (d : ℕ) where
   for_agrees (suc x) (suc y) lx ly h first last =
       pick_r (Agrees (suc x)) (agreeing (suc x)) (int_le first last)
       (turn_then (then_r (Agrees x) (agreeing x) (fewer (omega (arith, lx)) (h first)) (λ f.
-        after_turn_r (Agrees x) (agreeing x) f (for_agrees x y (omega (arith, lx)) (omega (arith, ly)) h (first +ℤ pos 1) last))))
+      after_turn_r (Agrees x) (agreeing x) f (for_agrees x y (omega (arith, lx)) (omega (arith, ly)) h (first +ℤ pos 1) last))))
       (pure_r (Agrees (suc x)) (agreeing (suc x)) onward)
 
 loops_agree : (d e : ℕ) → d ≤ e → AreLoopsRelated (Agrees d) d e
@@ -154,8 +154,8 @@ calls_agree types program zero e le k maker ps level = stop_agrees
 calls_agree types program (suc d) zero le k maker ps level = absurd (omega (arith, le))
 calls_agree types program (suc d) (suc e) le k maker ps level =
     then_r (Agrees (suc d)) (agreeing (suc d)) (or_stray_r (Agrees (suc d)) (agreeing (suc d)) (slice_get program.bodies k)) (λ b.
-      turn_then (entered_r (Agrees d) (agreeing d) types program (run_to types program d) (run_to types program e)
-        (calls_agree types program d e (omega (arith, le))) d e (loops_agree d e (omega (arith, le))) k b maker ps level))
+    turn_then (entered_r (Agrees d) (agreeing d) types program (run_to types program d) (run_to types program e)
+    (calls_agree types program d e (omega (arith, le))) d e (loops_agree d e (omega (arith, le))) k b maker ps level))
 
 pub depths_agree : (types : Types) (program : Program) (input : List ℤ) (turns depth : ℕ) → turns < depth
     → behaviour (run_to types program depth program.main None [] 0 (start input turns)) ≡ run_of types program input turns

@@ -1,6 +1,5 @@
 -- With more turns a run that was cut goes on, and any other is the same.
-use Rattle.std.proofs.Common.{◌≡◌, ℕ, zero, suc, ◌≤◌, ◌-◌, ℤ, pos, List, [], ◌∷◌, ◌++◌, Option, Some, None, inl, inr, refl, sym, ap, subst, ◌∙◌, arith, append_assoc}
-use Rattle.std.proofs.Math.Nat.{add-sub_of_le}
+use Rattle.std.proofs.Common.{◌≡◌, ℕ, zero, suc, ◌≤◌, ℤ, pos, List, [], ◌∷◌, ◌++◌, Option, None, inl, inr, refl, sym, ap, subst, ◌∙◌, arith, append_assoc}
 use Rattle.std.specs.Prelude.{Bool, ◌+ℤ◌, int_le, slice_get}
 use Rattle.own_tree.specs.TypedSource.{Program}
 use Rattle.own_table.specs.Types.{Types}
@@ -9,11 +8,11 @@ use Rattle.own_runs.specs.Events.{Item, printed, happened, event_line, output_of
 use Rattle.own_runs.specs.Laws.{IsFront, GoesOn, IsAtFront}
 use Rattle.own_runs.specs.Loops.{Flow, onward, while_turns, repeat_turns, for_turns}
 use Rattle.own_runs.specs.Run.{Behaviour, behaviour, run_to, run_of, start}
-use Rattle.own_runs.specs.Store.{State, Act, take_turn, turn_of}
+use Rattle.own_runs.specs.Store.{State, Act, turn_of}
 use Rattle.own_runs.specs.Values.{Val}
-use Rattle.own_runs.specs.Ways.{Way, gives, traps, stops, errs, strays, after, ◌>>=◌, pure, stop}
+use Rattle.own_runs.specs.Ways.{Way, gives, traps, stops, errs, strays, after, ◌>>=◌, stop}
 use Rattle.own_runs.proofs.Related.{IsPlain, IsClosed, AreLoopsRelated, then_r, next_r, pick_r, or_stray_r, pure_r, after_turn_r, entered_r}
-use Rattle.own_runs.proofs.Growing.{log_of, front_self, front_trans, Grows, turn_grows, after_grows, stop_grows, grows_then, growing, while_grows, repeat_grows, for_grows, calls_grow}
+use Rattle.own_runs.proofs.Growing.{log_of, front_self, front_trans, Grows, turn_grows, after_grows, grows_then, growing, while_grows, repeat_grows, for_grows, calls_grow}
 
 abbrev pub with_turns : ℕ → State → State
 with_turns n s = record s { turns = n }
@@ -85,17 +84,17 @@ while_on zero e le h k = from_stop (while_grows e h.grows k.grows)
 while_on (suc d) zero le h k = absurd (omega (arith, le))
 while_on (suc d) (suc e) le h k =
     next_r Continues continuing continuing.turns_ (then_r Continues continuing h (λ holds.
-      pick_r Continues continuing holds
-      (then_r Continues continuing k (λ f. after_turn_r Continues continuing f (while_on d e (omega (arith, le)) h k)))
-      (pure_r Continues continuing onward)))
+    pick_r Continues continuing holds
+    (then_r Continues continuing k (λ f. after_turn_r Continues continuing f (while_on d e (omega (arith, le)) h k)))
+    (pure_r Continues continuing onward)))
 
 repeat_on : (d e : ℕ) → d ≤ e → {c c' : Act Bool} {b b' : Act Flow} → Continues _ c c' → Continues _ b b' → Continues _ (repeat_turns d c b) (repeat_turns e c' b')
 repeat_on zero e le h k = from_stop (repeat_grows e h.grows k.grows)
 repeat_on (suc d) zero le h k = absurd (omega (arith, le))
 repeat_on (suc d) (suc e) le h k =
     next_r Continues continuing continuing.turns_ (then_r Continues continuing k (λ f.
-      after_turn_r Continues continuing f (then_r Continues continuing h (λ holds.
-        pick_r Continues continuing holds (repeat_on d e (omega (arith, le)) h k) (pure_r Continues continuing onward)))))
+    after_turn_r Continues continuing f (then_r Continues continuing h (λ holds.
+    pick_r Continues continuing holds (repeat_on d e (omega (arith, le)) h k) (pure_r Continues continuing onward)))))
 
 for_on : (d e : ℕ) → d ≤ e → {b b' : ℤ → Act Flow} → ((n : ℤ) → Continues _ (b n) (b' n)) → (first last : ℤ) → Continues _ (for_turns d b first last) (for_turns e b' first last)
 for_on zero e le h first last = from_stop (for_grows e (λ n. (h n).grows) first last)
@@ -103,7 +102,7 @@ for_on (suc d) zero le h first last = absurd (omega (arith, le))
 for_on (suc d) (suc e) le h first last =
     pick_r Continues continuing (int_le first last)
     (next_r Continues continuing continuing.turns_ (then_r Continues continuing (h first) (λ f.
-      after_turn_r Continues continuing f (for_on d e (omega (arith, le)) h (first +ℤ pos 1) last))))
+    after_turn_r Continues continuing f (for_on d e (omega (arith, le)) h (first +ℤ pos 1) last))))
     (pure_r Continues continuing onward)
 
 loops_on : (d e : ℕ) → d ≤ e → AreLoopsRelated Continues d e
@@ -115,8 +114,8 @@ calls_on types program zero e le k maker ps level = from_stop (calls_grow types 
 calls_on types program (suc d) zero le k maker ps level = absurd (omega (arith, le))
 calls_on types program (suc d) (suc e) le k maker ps level =
     then_r Continues continuing (or_stray_r Continues continuing (slice_get program.bodies k)) (λ b.
-      next_r Continues continuing continuing.turns_
-      (entered_r Continues continuing types program (run_to types program d) (run_to types program e) (calls_on types program d e (omega (arith, le))) d e (loops_on d e (omega (arith, le))) k b maker ps level))
+    next_r Continues continuing continuing.turns_
+    (entered_r Continues continuing types program (run_to types program d) (run_to types program e) (calls_on types program d e (omega (arith, le))) d e (loops_on d e (omega (arith, le))) k b maker ps level))
 
 -- ---- behaviours
 

@@ -1,5 +1,5 @@
 -- Each run only adds to the log.
-use Rattle.std.proofs.Common.{◌≡◌, ℕ, zero, suc, ℤ, pos, List, [], ◌∷◌, ◌++◌, Option, Some, None, refl, sym, ap, ◌∙◌}
+use Rattle.std.proofs.Common.{ℕ, zero, suc, ℤ, pos, List, [], ◌++◌, Option, sym, ap, ◌∙◌}
 use Rattle.std.proofs.lemmas.List.{append-nil, append_assoc}
 use Rattle.std.specs.Prelude.{Bool, ◌+ℤ◌, int_le, slice_get}
 use Rattle.own_tree.specs.TypedSource.{Program}
@@ -9,9 +9,9 @@ use Rattle.own_runs.specs.Events.{Item}
 use Rattle.own_runs.specs.Laws.{IsFront}
 use Rattle.own_runs.specs.Loops.{Flow, onward, while_turns, repeat_turns, for_turns}
 use Rattle.own_runs.specs.Run.{run_to}
-use Rattle.own_runs.specs.Store.{State, Act, take_turn, turn_of}
-use Rattle.own_runs.specs.Ways.{Way, gives, traps, stops, errs, strays, after, ◌>>=◌, pure, stop}
-use Rattle.own_runs.proofs.Related.{IsPlain, IsClosed, AreLoopsRelated, then_r, next_r, pick_r, or_stray_r, pure_r, after_turn_r, entered_r}
+use Rattle.own_runs.specs.Store.{State, Act, turn_of}
+use Rattle.own_runs.specs.Ways.{Way, gives, traps, stops, errs, strays, after, ◌>>=◌, stop}
+use Rattle.own_runs.proofs.Related.{IsClosed, AreLoopsRelated, then_r, next_r, pick_r, or_stray_r, pure_r, after_turn_r, entered_r}
 
 abbrev pub state_of : {A : Type 0} → Way State A → State
 state_of (gives a s) = s
@@ -67,13 +67,13 @@ pub while_grows : (d : ℕ) {c c' : Act Bool} {b b' : Act Flow} → Grows _ c c'
 while_grows zero h k = stop_grows
 while_grows (suc d) h k =
     next_r Grows growing growing.turns_ (then_r Grows growing h (λ holds.
-      pick_r Grows growing holds (then_r Grows growing k (λ f. after_turn_r Grows growing f (while_grows d h k))) (pure_r Grows growing onward)))
+    pick_r Grows growing holds (then_r Grows growing k (λ f. after_turn_r Grows growing f (while_grows d h k))) (pure_r Grows growing onward)))
 
 pub repeat_grows : (d : ℕ) {c c' : Act Bool} {b b' : Act Flow} → Grows _ c c' → Grows _ b b' → Grows _ (repeat_turns d c b) (repeat_turns d c' b')
 repeat_grows zero h k = stop_grows
 repeat_grows (suc d) h k =
     next_r Grows growing growing.turns_ (then_r Grows growing k (λ f.
-      after_turn_r Grows growing f (then_r Grows growing h (λ holds. pick_r Grows growing holds (repeat_grows d h k) (pure_r Grows growing onward)))))
+    after_turn_r Grows growing f (then_r Grows growing h (λ holds. pick_r Grows growing holds (repeat_grows d h k) (pure_r Grows growing onward)))))
 
 pub for_grows : (d : ℕ) {b b' : ℤ → Act Flow} → ((n : ℤ) → Grows _ (b n) (b' n)) → (first last : ℤ) → Grows _ (for_turns d b first last) (for_turns d b' first last)
 for_grows zero h first last = stop_grows
@@ -90,5 +90,5 @@ pub calls_grow : (types : Types) (program : Program) (d k : ℕ) (maker : Option
 calls_grow types program zero k maker ps level = stop_grows
 calls_grow types program (suc d) k maker ps level =
     then_r Grows growing (or_stray_r Grows growing (slice_get program.bodies k)) (λ b.
-      next_r Grows growing growing.turns_
-      (entered_r Grows growing types program (run_to types program d) (run_to types program d) (calls_grow types program d) d d (loops_grow d) k b maker ps level))
+    next_r Grows growing growing.turns_
+    (entered_r Grows growing types program (run_to types program d) (run_to types program d) (calls_grow types program d) d d (loops_grow d) k b maker ps level))

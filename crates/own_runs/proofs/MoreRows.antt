@@ -1,8 +1,7 @@
 -- Worked programs with enums, numbers and levels, run.
-use Rattle.std.specs.Prelude.{◌≡◌, refl, ℕ, suc, ℤ, pos, neg_ℤ, Bool, true, false, List, [], ◌∷◌, ◌++◌, Option, Some, None, codes}
+use Rattle.std.specs.Prelude.{◌≡◌, refl, ℕ, ℤ, pos, neg_ℤ, true, false, List, [], ◌∷◌, Some, None, codes}
 use Rattle.std.specs.Fmt.{digits}
 use Rattle.own_tree.specs.declared.arithmetic.Arith.TheVariants as arith_of
-use Rattle.own_tree.specs.declared.place.Binding.{Binding}
 use Rattle.own_tree.specs.declared.place.Mode.TheVariants as mode
 use Rattle.own_tree.specs.declared.place.Ty.{Ty}
 use Rattle.own_tree.specs.declared.place.Ty.TheVariants as type
@@ -11,11 +10,11 @@ use Rattle.own_tree.specs.declared.typed.BodyKind.TheVariants as body
 use Rattle.own_tree.specs.declared.typed.Comparison.TheVariants as compare
 use Rattle.own_tree.specs.declared.typed.Passing.TheVariants as passing
 use Rattle.own_tree.specs.declared.typed.Target.TheVariants as target
-use Rattle.own_tree.specs.Source.{Decl, enum_of, cases}
-use Rattle.own_tree.specs.TypedSource.{bind, any, of_case, pat, no_pats, TExp, truth, arithmetic, wrapping, compared, call, member, consumed, case_of, case_where, default, TStm, let_in, ignore, discard_self, if_then, if_else, loop_while, loop_for, switch, return_value, evaluate, clause, no_clauses, TBody, Program}
+use Rattle.own_tree.specs.Source.{enum_of, cases}
+use Rattle.own_tree.specs.TypedSource.{bind, any, of_case, pat, no_pats, TExp, truth, arithmetic, wrapping, compared, call, member, consumed, case_of, case_where, default, let_in, ignore, update, discard_self, if_then, if_else, loop_while, loop_repeat, loop_for, leave, go_on, switch, return_value, clause, no_clauses, TBody, Program}
 use Rattle.own_table.specs.Types.{Types, types_declared}
-use Rattle.own_runs.specs.Run.{Outcome, Ended, Trapped, Cut, Wrong, behaviour, output, run_of, run_to, start}
-use Rattle.own_runs.proofs.Spelled.{answer, traced_answer, lines, sp, node, at, in_place, path_at, p, i, v, w, exps, stms, blk, do_, say, read_int, equal, has, ends, name_at, case_with, noncopyable_struct, types_with, bound, body_with, function_body, main_body, file_decl, with_file, alone, new, take_, write_, f, fd, file_types, local_file, local_int}
+use Rattle.own_runs.specs.Run.{Outcome, Ended, Trapped, Cut, behaviour, output, run_of, run_to, start}
+use Rattle.own_runs.proofs.Spelled.{answer, traced_answer, lines, sp, node, at, in_place, path_at, p, i, v, w, exps, stms, blk, do_, say, read_int, equal, has, ends, name_at, case_with, noncopyable_struct, types_with, bound, body_with, function_body, main_body, file_decl, with_file, alone, new, f, fd, file_types, local_file, local_int}
 
 -- ---- a consuming `switch`
 
@@ -285,3 +284,20 @@ handed_out_runs : traced_answer key_types handed_out [] 9
 unfolding run_of types_declared digits
 handed_out_runs = refl
 
+-- ---- jumps
+
+abbrev skips : Program
+skips = alone (main_body (
+    let_in (node 1) 0 (i 2 0)
+    ∷ loop_repeat (node 3) (blk (
+    update (node 4) (path_at 5 type.Int 0 []) arith_of.Add (sp 4) (i 6 1)
+    ∷ if_then (node 7) (equal 8 (v 9 0 []) (i 10 2)) (blk (go_on (node 11) ∷ []))
+    ∷ if_then (node 12) (equal 13 (v 14 0 []) (i 15 5)) (blk (leave (node 16) ∷ []))
+    ∷ say 17 (v 18 0 [] ∷ []) ∷ [])) (compared (at 19 type.Bool) compare.Less (v 20 0 []) (i 21 9)) ∷ []) ∷ [])
+    (local_int (codes "i") 0 ∷ [])
+
+-- `continue` goes to the condition, and `break` leaves the loop.
+skips_run : answer no_types skips [] 9
+    ≡ (Ended, lines (codes "1" ∷ codes "3" ∷ codes "4" ∷ []))
+unfolding run_of types_declared digits
+skips_run = refl

@@ -2,7 +2,7 @@
 -- loops, each run of a body is related to another run of the same body.
 use Rattle.std.proofs.Common.{◌≡◌, ℕ, zero, suc, ◌+◌, ◌-◌, Bool, true, false, List, [], ◌∷◌, ◌++◌, Option, Some, None, length, take, refl, sym}
 use Rattle.std.proofs.lemmas.List.{append-nil}
-use Rattle.std.specs.Prelude.{◌==◌, ℤ, pos, ◌+ℤ◌, ◌-ℤ◌, ◌*ℤ◌, neg_ℤ, slice_get, slice_set, nat_le}
+use Rattle.std.specs.Prelude.{◌==◌, ℤ, pos, ◌+ℤ◌, ◌-ℤ◌, ◌*ℤ◌, neg_ℤ, slice_set, nat_le}
 use Rattle.std.specs.Prelude.{int_lt}
 use Rattle.own_tree.specs.declared.arithmetic.Arith.{Arith}
 use Rattle.own_tree.specs.declared.arithmetic.Arith.TheVariants as arith
@@ -36,7 +36,7 @@ use Rattle.own_runs.specs.Patterns.{chosen, bound_parts, case_shapes, end_rest, 
 use Rattle.own_runs.specs.Run.{last_of, forget, connected, eval, eval_all, test, drop_value, assign_value, end_slot, end_all, leave_scope, subject_at, bind_as, bind_part, bind_all, holds_guard, take_apart, run_clause, late_parts, clause_names, clause_or, exec, exec_all, exec_block, exec_turn, exec_clauses, exec_body, completed, come_back, made_self, result_value, body_value, init_slots, entry_slots, run_body, entered}
 use Rattle.own_runs.specs.Store.{Root, binding, temporary, result, Location, Slot, absent, holds, refers, runs, Activation, State, Act, or_found, activation, set_activation, slot_at, set_slot, begin, finish, own_value, root_value, peek, put, read, vacate, move, hold, take_turn, take_level, log_item, note, born, read_input, first_or_zero, after_first, root_at, below}
 use Rattle.own_runs.specs.Values.{Val, int, bool, unit, struct, variant, hole, Vals, is_whole, all_whole, emptied, vacant, Part, field, payload, Found, found, hollow, nowhere, value_at, with_value_at}
-use Rattle.own_runs.specs.Ways.{◌>>=◌, ◌>>◌, pure, trap, stop, err, stray, look, change, pick, or_stray}
+use Rattle.own_runs.specs.Ways.{◌>>=◌, ◌>>◌, pure, trap, err, stray, look, change, pick, or_stray}
 
 -- what does not hang on the turns that are left
 abbrev pub IsTurnless : {A : Type 0} → (State → A) → Type 0
@@ -102,7 +102,7 @@ module _ (Rel : (A : Type 0) → Act A → Act A → Type 0) (closed_ : IsClosed
   pub begin_r : (new : Activation) → Rel _ (begin new) (begin new)
   begin_r new =
       then_r (closed_.looks (λ s. length s.store) (λ s n. refl)) (λ me.
-        next_r (closed_.changes (λ s. record s { store = s.store ++ new ∷ [] }) (record { apart = λ s n. refl; keeps = λ s. refl; adds = λ s. ([], sym (append-nil s.log)) })) (pure_r me))
+      next_r (closed_.changes (λ s. record s { store = s.store ++ new ∷ [] }) (record { apart = λ s n. refl; keeps = λ s. refl; adds = λ s. ([], sym (append-nil s.log)) })) (pure_r me))
 
   pub finish_r : Rel _ finish finish
   finish_r = closed_.changes (λ s. record s { store = take (length s.store - 1) s.store }) (record { apart = λ s n. refl; keeps = λ s. refl; adds = λ s. ([], sym (append-nil s.log)) })
@@ -124,7 +124,7 @@ module _ (Rel : (A : Type 0) → Act A → Act A → Type 0) (closed_ : IsClosed
   pub put_r : (l : Location) (new : Val) → Rel _ (put l new) (put l new)
   put_r l new =
       then_r (activation_r l.activation) (λ act. then_r (root_value_r l.root act) (λ old.
-        then_r (or_found_r (with_value_at l.parts new old)) (λ changed. set_activation_r l.activation _)))
+      then_r (or_found_r (with_value_at l.parts new old)) (λ changed. set_activation_r l.activation _)))
 
   pub read_r : (l : Location) → Rel _ (read l) (read l)
   read_r l = then_r (peek_r l) (λ v. pick_r (is_whole v) (pure_r v) closed_.errs_)
@@ -150,13 +150,13 @@ module _ (Rel : (A : Type 0) → Act A → Act A → Type 0) (closed_ : IsClosed
   pub born_r : (type : ℕ) (fields : Vals) → Rel _ (born type fields) (born type fields)
   born_r type fields =
       then_r (closed_.looks (λ s. s.births + 1) (λ s n. refl)) (λ i.
-        next_r (closed_.changes (λ s. record s { births = i }) (record { apart = λ s n. refl; keeps = λ s. refl; adds = λ s. ([], sym (append-nil s.log)) }))
-        (next_r (note_r (made type i)) (pure_r (struct type (Some i) fields))))
+      next_r (closed_.changes (λ s. record s { births = i }) (record { apart = λ s n. refl; keeps = λ s. refl; adds = λ s. ([], sym (append-nil s.log)) }))
+      (next_r (note_r (made type i)) (pure_r (struct type (Some i) fields))))
 
   pub read_input_r : Rel _ read_input read_input
   read_input_r =
       then_r (closed_.looks (λ s. first_or_zero s.input) (λ s n. refl)) (λ n.
-        next_r (closed_.changes (λ s. record s { input = after_first s.input }) (record { apart = λ s n. refl; keeps = λ s. refl; adds = λ s. ([], sym (append-nil s.log)) })) (pure_r (int n)))
+      next_r (closed_.changes (λ s. record s { input = after_first s.input }) (record { apart = λ s n. refl; keeps = λ s. refl; adds = λ s. ([], sym (append-nil s.log)) })) (pure_r (int n)))
 
   -- ---- arithmetic
 
@@ -387,7 +387,7 @@ module _ (Rel : (A : Type 0) → Act A → Act A → Type 0) (closed_ : IsClosed
       destroy_r (shape.enum head cases) l level =
           pick_r (one_case_holds_tracked cases)
           (then_r (peek_r l) (λ v. present_case_r v (λ present.
-            next_r (next_r (level_r _) (case_r cases present present l (level + 1))) (put_r l hole))))
+          next_r (next_r (level_r _) (case_r cases present present l (level + 1))) (put_r l hole))))
           (pure_r tt)
 
       pub parts_r : (part : ℕ → Part) (k : ℕ) (ss : Shapes) (l : Location) (level : ℕ) → Rel _ (destroy_parts program run part k ss l level) (destroy_parts program run' part k ss l level)
@@ -533,10 +533,10 @@ module _ (Rel : (A : Type 0) → Act A → Act A → Type 0) (closed_ : IsClosed
         eval_r (choice at c a b) = then_r (then_r (eval_r c) as_bool_r) (λ x. pick_r x (eval_r a) (eval_r b))
         eval_r (member at e k) =
             then_r (then_r (eval_r e) (λ v. hold_r me (node_of e) v)) (λ l.
-              then_r (read_r (below l (field k ∷ []))) (λ v. next_r (end_value_r (types.shape (node_of e).ty) l level) (pure_r v)))
+            then_r (read_r (below l (field k ∷ []))) (λ v. next_r (end_value_r (types.shape (node_of e).ty) l level) (pure_r v)))
         eval_r (call at to es passings) =
             then_r (eval_all_r es passings) (λ ps.
-              then_r (then_r (next_r (lend_all_r ps) (apply_r to ps)) (λ v. hold_r me at v)) (λ l. next_r (end_lent_r ps) (move_r l)))
+            then_r (then_r (next_r (lend_all_r ps) (apply_r to ps)) (λ v. hold_r me at v)) (λ l. next_r (end_lent_r ps) (move_r l)))
         eval_r (address p) = closed_.strays_
         eval_r (closure at k) = closed_.strays_
         eval_r (function at x) = closed_.strays_
@@ -556,7 +556,7 @@ module _ (Rel : (A : Type 0) → Act A → Act A → Type 0) (closed_ : IsClosed
       pub assign_value_r : (p : TypedPath) (e : TExp) → Rel _ (assign_value types program run me level p e) (assign_value types program run' me level p e)
       assign_value_r p e =
           then_r (then_r (eval_r e) (λ v. hold_r me (node_of e) v)) (λ from.
-            then_r (locate_r p.place) (λ l. then_r (next_r (end_value_r (types.shape p.at.ty) l level) (move_r from)) (λ v. put_r l v)))
+          then_r (locate_r p.place) (λ l. then_r (next_r (end_value_r (types.shape p.at.ty) l level) (move_r from)) (λ v. put_r l v)))
 
       -- ---- scopes and clauses
 
@@ -603,7 +603,7 @@ module _ (Rel : (A : Type 0) → Act A → Act A → Type 0) (closed_ : IsClosed
           → Rel _ (run_clause types program run me level e head p l names body next) (run_clause types program run' me level e head p l names body' next')
       run_clause_r e head p l names h k =
           next_r (bind_all_r (bound_parts p []) l) (then_r (holds_guard_r head) (λ go. pick_r go
-            (then_r (next_r (next_r (bind_all_r (late_parts (binds_twice types program e) head (bound_parts p [])) l) (take_apart_r (binds_twice types program e) p e l)) h) (λ f. leave_scope_r names f)) k))
+          (then_r (next_r (next_r (bind_all_r (late_parts (binds_twice types program e) head (bound_parts p [])) l) (take_apart_r (binds_twice types program e) p e l)) h) (λ f. leave_scope_r names f)) k))
 
       pub clause_or_r : (e : TExp) (head : TWhen) (o : Option TPat) (l : Location) (names : List ℕ) {body body' next next' : Act Flow} → Rel _ body body' → Rel _ next next'
           → Rel _ (clause_or types program run me level e head o l names body next) (clause_or types program run' me level e head o l names body' next')
@@ -621,7 +621,7 @@ module _ (Rel : (A : Type 0) → Act A → Act A → Type 0) (closed_ : IsClosed
           exec_r (assign at p e) = next_r (assign_value_r p e) (pure_r _)
           exec_r (update at p o mark e) =
               then_r (then_r (eval_r e) as_int_r) (λ y. then_r (locate_r p.place) (λ l.
-                then_r (then_r (read_r l) as_int_r) (λ x. next_r (then_r (compute_r o mark.start x y) (λ v. put_r l v)) (pure_r _))))
+              then_r (then_r (read_r l) as_int_r) (λ x. next_r (then_r (compute_r o mark.start x y) (λ v. put_r l v)) (pure_r _))))
           exec_r (discard_self at p) = next_r (then_r (then_r (locate_r p) move_r) forget_r) (pure_r _)
           exec_r (if_then at c a) = then_r (test_r c) (λ b. pick_r b (exec_block_r a) (pure_r _))
           exec_r (if_else at c a b) = then_r (test_r c) (λ x. pick_r x (exec_block_r a) (exec_block_r b))
@@ -630,7 +630,7 @@ module _ (Rel : (A : Type 0) → Act A → Act A → Type 0) (closed_ : IsClosed
           exec_r (loop_repeat at a c) = loops.repeats (test_r c) (exec_block_r a)
           exec_r (loop_for at x low o mark high a) =
               then_r (then_r (eval_r low) as_int_r) (λ i. then_r (then_r (eval_r high) as_int_r) (λ j.
-                pick_r (int_lt j i) (closed_.traps_ 4 mark.start) (loops.fors (λ n. exec_turn_r x n a) i (last_of o j))))
+              pick_r (int_lt j i) (closed_.traps_ 4 mark.start) (loops.fors (λ n. exec_turn_r x n a) i (last_of o j))))
           exec_r (switch at e cs) = then_r (subject_at_r (copyable (types.shape (node_of e).ty)) (path_of e) e) (λ l. then_r (exec_clauses_r cs e l) (λ f. pure_r _))
           exec_r (leave at) = pure_r _
           exec_r (go_on at) = pure_r _
@@ -653,7 +653,7 @@ module _ (Rel : (A : Type 0) → Act A → Act A → Type 0) (closed_ : IsClosed
           exec_clauses_r no_clauses e l = closed_.strays_
           exec_clauses_r (clause span head ss cs) e l =
               then_r (peek_r l) (λ v. then_r (or_found_r (chosen head v)) (λ p.
-                clause_or_r e head p l (clause_names (binds_twice types program e) head ++ locals ss) (exec_all_r ss) (exec_clauses_r cs e l)))
+              clause_or_r e head p l (clause_names (binds_twice types program e) head ++ locals ss) (exec_all_r ss) (exec_clauses_r cs e l)))
 
         pub exec_body_r : (is_value : Bool) (b : TBlk) → Rel _ (exec_body types program run me level depth is_value b) (exec_body types program run' me level depth' is_value b)
         exec_body_r true (block at (stm (evaluate node e) no_stms)) = next_r (then_r (eval_r e) (λ v. put_r (root_at me result) v)) (pure_r _)
@@ -668,4 +668,4 @@ module _ (Rel : (A : Type 0) → Act A → Act A → Type 0) (closed_ : IsClosed
         → Rel _ (entered types program depth run k b maker ps level) (entered types program depth' run' k b maker ps level)
     entered_r depth depth' loops k b maker ps level =
         next_r (level_r _) (then_r (entry_slots_r types program b.kind b.params ps) (λ slots.
-          then_r (begin_r _) (λ me. then_r (run_body_r me (level + 1) depth depth' loops b) (λ v. next_r finish_r (pure_r v)))))
+        then_r (begin_r _) (λ me. then_r (run_body_r me (level + 1) depth depth' loops b) (λ v. next_r finish_r (pure_r v)))))

@@ -1,5 +1,5 @@
 -- Worked programs over `File`, run.
-use Rattle.std.specs.Prelude.{◌≡◌, refl, ℕ, suc, ℤ, pos, neg_ℤ, List, [], ◌∷◌, ◌++◌, Option, Some, None, codes, true}
+use Rattle.std.specs.Prelude.{◌≡◌, refl, pos, [], ◌∷◌, Some, None, codes}
 use Rattle.std.specs.Fmt.{digits}
 use Rattle.own_tree.specs.declared.arithmetic.Arith.TheVariants as arith_of
 use Rattle.own_tree.specs.declared.place.Mode.TheVariants as mode
@@ -10,8 +10,7 @@ use Rattle.own_tree.specs.declared.typed.BodyKind.TheVariants as body
 use Rattle.own_tree.specs.declared.typed.Comparison.TheVariants as compare
 use Rattle.own_tree.specs.declared.typed.Passing.TheVariants as passing
 use Rattle.own_tree.specs.declared.typed.Target.TheVariants as target
-use Rattle.own_tree.specs.Source.{Decl}
-use Rattle.own_tree.specs.TypedSource.{arithmetic, compared, call, address, closure, let_in, assign, update, if_then, loop_while, loop_for, Program}
+use Rattle.own_tree.specs.TypedSource.{arithmetic, compared, call, address, closure, let_in, ignore, assign, update, if_then, loop_while, loop_for, Program}
 use Rattle.own_table.specs.Types.{Types, types_declared}
 use Rattle.own_runs.specs.Run.{Ended, Cut, Wrong, run_of}
 use Rattle.own_runs.proofs.Spelled.{answer, traced_answer, lines, sp, node, at, path_at, p, i, v, w, exps, blk, do_, say, read_int, equal, has, ends, noncopyable_struct, types_with, bound, body_with, function_body, main_body, file_decl, with_file, new, take_, write_, close_, f, file_types, local_file, local_int}
@@ -188,3 +187,53 @@ used_after_consumed_runs : answer file_types used_after_consumed [] 30
 unfolding run_of types_declared digits
 used_after_consumed_runs = refl
 
+-- `q` is consumed, and then its property is assigned
+abbrev written_below : Program
+written_below = with_file 6 (
+    body_with body.Deinitializer (Some 1) (7 ∷ []) type.Unit (say 1 (w 2 (codes "held") ∷ []) ∷ [])
+    ∷ main_body (
+    let_in (node 1) 8 (call (at 2 pair) (target.Memberwise 1) (exps (new 3 (i 4 1) ∷ [])) (passing.Consume ∷ []))
+    ∷ ignore (node 5) (p 6 pair 8 []) ∷ assign (node 7) (path_at 8 (type.Named 0) 8 (0 ∷ [])) (new 9 (i 10 2)) ∷ []) ∷ [])
+    (bound (codes "self") pair mode.SelfDeinit 5 ∷ bound (codes "q") pair mode.Var 6 ∷ [])
+
+-- To write below a hole is wrong.
+written_below_runs : answer held_types written_below [] 30
+    ≡ (Wrong, lines (codes "open 1" ∷ codes "held" ∷ codes "deinit 1" ∷ codes "open 2" ∷ []))
+unfolding run_of types_declared digits
+written_below_runs = refl
+
+abbrev taken_out_of : Program
+taken_out_of = with_file 6 (
+    body_with body.Deinitializer (Some 1) (7 ∷ []) type.Unit (say 1 (w 2 (codes "held") ∷ []) ∷ [])
+    ∷ main_body (
+    let_in (node 1) 8 (call (at 2 pair) (target.Memberwise 1) (exps (new 3 (i 4 1) ∷ [])) (passing.Consume ∷ []))
+    ∷ take_ 5 (p 6 (type.Named 0) 8 (0 ∷ [])) ∷ []) ∷ [])
+    (bound (codes "self") pair mode.SelfDeinit 5 ∷ bound (codes "q") pair mode.Var 6 ∷ [])
+
+-- A struct with a `deinit` and with a hole is wrong to destroy.
+taken_out_of_runs : answer held_types taken_out_of [] 30
+    ≡ (Wrong, lines (codes "open 1" ∷ codes "take 1" ∷ codes "deinit 1" ∷ []))
+unfolding run_of types_declared digits
+taken_out_of_runs = refl
+
+abbrev made_without : Program
+made_without = with_file 6 (
+    body_with body.Initializer (Some 0) (7 ∷ []) type.Unit (say 1 (w 2 (codes "made") ∷ []) ∷ [])
+    ∷ main_body (let_in (node 1) 8 (call (at 2 (type.Named 0)) (target.Init 5) (exps []) []) ∷ []) ∷ [])
+    (bound (codes "self") (type.Named 0) mode.SelfInit 5 ∷ local_file (codes "f") 6 ∷ [])
+
+-- An `init` that returns a hole is wrong.
+made_without_runs : answer file_types made_without [] 30
+    ≡ (Wrong, lines (codes "made" ∷ []))
+unfolding run_of types_declared digits
+made_without_runs = refl
+
+abbrev two_end : Program
+two_end = with_file 5 (main_body (let_in (node 1) 7 (new 2 (i 3 1)) ∷ let_in (node 4) 8 (new 5 (i 6 2)) ∷ []) ∷ [])
+    (local_file (codes "a") 5 ∷ local_file (codes "b") 5 ∷ [])
+
+-- The last binding of a scope ends first.
+two_end_run : answer file_types two_end [] 30
+    ≡ (Ended, lines (codes "open 1" ∷ codes "open 2" ∷ codes "deinit 2" ∷ codes "deinit 1" ∷ []))
+unfolding run_of types_declared digits
+two_end_run = refl

@@ -1,7 +1,6 @@
 -- How worked programs are written as typed trees, and the program text that most of them begin with. A node has its
 -- own number, which stands for its place in the text too.
-use Rattle.std.specs.Prelude.{◌≡◌, ℕ, suc, ℤ, pos, Bool, true, false, List, [], ◌∷◌, ◌++◌, Option, Some, None, codes}
-use Rattle.own_tree.specs.declared.arithmetic.Arith.{Arith}
+use Rattle.std.specs.Prelude.{ℕ, suc, ℤ, pos, true, false, List, [], ◌∷◌, ◌++◌, Option, Some, None, codes}
 use Rattle.own_tree.specs.declared.place.Binding.{Binding}
 use Rattle.own_tree.specs.declared.place.Mode.{Mode}
 use Rattle.own_tree.specs.declared.place.Mode.TheVariants as mode
@@ -15,17 +14,15 @@ use Rattle.own_tree.specs.declared.tree.CaseItem.{CaseItem}
 use Rattle.own_tree.specs.declared.typed.At.{At}
 use Rattle.own_tree.specs.declared.typed.BodyKind.{BodyKind}
 use Rattle.own_tree.specs.declared.typed.BodyKind.TheVariants as body
-use Rattle.own_tree.specs.declared.typed.Comparison.{Comparison}
 use Rattle.own_tree.specs.declared.typed.Comparison.TheVariants as compare
 use Rattle.own_tree.specs.declared.typed.Passing.{Passing}
 use Rattle.own_tree.specs.declared.typed.Passing.TheVariants as passing
-use Rattle.own_tree.specs.declared.typed.Target.{Target}
 use Rattle.own_tree.specs.declared.typed.Target.TheVariants as target
 use Rattle.own_tree.specs.declared.typed.TypedPath.{TypedPath}
-use Rattle.own_tree.specs.Source.{Member, Decl, struct_of, enum_of, field, cases, deinitializer, no_stms as parsed_nothing, Blk as ParsedBlock, block as parsed_block}
-use Rattle.own_tree.specs.TypedSource.{TExp, number, text, path, compared, call, address, TExps, no_exps, exp, TStm, assign, discard_self, evaluate, TStms, no_stms, stm, TBlk, block, TBody, Program}
+use Rattle.own_tree.specs.Source.{Member, Decl, struct_of, field, deinitializer, no_stms as parsed_nothing, Blk as ParsedBlock, block as parsed_block}
+use Rattle.own_tree.specs.TypedSource.{TExp, number, text, path, compared, call, TExps, no_exps, exp, TStm, assign, discard_self, evaluate, TStms, no_stms, stm, TBlk, block, TBody, Program}
 use Rattle.own_table.specs.Types.{Types, declared_types, types_declared}
-use Rattle.own_runs.specs.Run.{Outcome, Behaviour, output, traced_output, run_of}
+use Rattle.own_runs.specs.Run.{Outcome, output, traced_output, run_of}
 
 -- ---- answers
 

@@ -4,14 +4,13 @@ use Rattle.std.specs.Fmt.{signed_decimal}
 use Rattle.own_tree.specs.declared.place.Binding.{Binding}
 use Rattle.own_tree.specs.declared.place.Place.{Place}
 use Rattle.own_tree.specs.declared.place.Ty.TheVariants as type
-use Rattle.own_tree.specs.declared.typed.At.{At}
 use Rattle.own_tree.specs.declared.typed.Passing.{Passing}
 use Rattle.own_tree.specs.declared.typed.Passing.TheVariants as passing
 use Rattle.own_tree.specs.declared.typed.Target.{Target}
 use Rattle.own_tree.specs.declared.typed.Target.TheVariants as target
 use Rattle.own_tree.specs.declared.typed.TypedPath.{TypedPath}
 use Rattle.own_tree.specs.TypedSource.{TExp, text, parenthesized, address, closure, function, Program}
-use Rattle.own_table.specs.Types.{Types, Shape, copyable, tracked}
+use Rattle.own_table.specs.Types.{Types, Shape, is_copyable, tracked}
 use Rattle.own_table.specs.Within.{node_of, path_of}
 use Rattle.own_runs.specs.Destruction.{Passed, given, lent, lent_temporary, closed, words, Call, end_value}
 use Rattle.own_runs.specs.Events.{used, printed, line}
@@ -148,7 +147,7 @@ module _ (types : Types) (program : Program) (run : Call) (me level : ℕ) where
 
   -- a copyable path is copied, and one that is not moves (SE-0390)
   abbrev pub take_value : TypedPath → Act Val
-  take_value p = locate p.place >>= λ l. pick (copyable (types.shape p.at.ty)) (read l) (move l)
+  take_value p = locate p.place >>= λ l. pick (is_copyable types p.at.ty) (read l) (move l)
 
   abbrev pub closure_in : Slot → Act Passed
   closure_in (runs body maker) = pure (closed body maker)

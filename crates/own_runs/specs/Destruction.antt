@@ -100,7 +100,7 @@ module _ (program : Program) (run : Call) where
     destroy (shape.enum head cases) l level =
         pick (one_case_holds_tracked cases)
         (peek l >>= λ v. present_case v (λ present.
-          take_level (level + 1) >> destroy_case cases present present l (level + 1) >> put l hole))
+        take_level (level + 1) >> destroy_case cases present present l (level + 1) >> put l hole))
         (pure tt)
 
     -- the parts from number k on, in order of declaration

@@ -1,7 +1,6 @@
 -- What a run leaves behind: what it wrote and what became of its tracked values, in order.
 use Rattle.std.specs.Prelude.{ℕ, ◌^◌, ◌-◌, min, List, [], ◌∷◌, ◌++◌, codes}
 use Rattle.std.specs.Fmt.{decimal}
-use Rattle.own_tree.specs.declared.place.Ty.{Ty}
 use Rattle.own_tree.specs.declared.place.Ty.TheVariants as type
 use Rattle.own_table.specs.Types.{Types}
 

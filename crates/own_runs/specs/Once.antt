@@ -59,5 +59,5 @@ IsUntouched types program = (input : List ℤ) (turns : ℕ) → (run_of types p
 pub record EndsOnce (types : Types) (program : Program) : Type 0 where
   pub lives : (input : List ℤ) (turns number : ℕ) → IsLife (life types program input turns number)
   pub ends :
-    (input : List ℤ) (turns number : ℕ) → (run_of types program input turns).outcome ≡ Ended
-    → IsMade (life types program input turns number) → HasEnd (life types program input turns number)
+      (input : List ℤ) (turns number : ℕ) → (run_of types program input turns).outcome ≡ Ended
+      → IsMade (life types program input turns number) → HasEnd (life types program input turns number)

@@ -1,5 +1,5 @@
 -- What a run of a typed program does, by cases on the program.
-use Rattle.std.specs.Prelude.{ℕ, zero, suc, ◌+◌, ℤ, pos, ◌-ℤ◌, int_lt, Bool, true, false, not, ◌&&◌, List, [], ◌∷◌, ◌++◌, map, slice_get, Option, Some, None, if◌then◌else◌}
+use Rattle.std.specs.Prelude.{ℕ, zero, suc, ◌+◌, ℤ, pos, ◌-ℤ◌, int_lt, Bool, true, false, not, List, [], ◌∷◌, ◌++◌, map, slice_get, Option, Some, None, if◌then◌else◌}
 use Rattle.own_tree.specs.declared.arithmetic.Arith.TheVariants as arith
 use Rattle.own_tree.specs.declared.place.Mode.{Mode}
 use Rattle.own_tree.specs.declared.place.Mode.TheVariants as mode
@@ -11,9 +11,9 @@ use Rattle.own_tree.specs.declared.typed.Logic.{Logic}
 use Rattle.own_tree.specs.declared.typed.Logic.TheVariants as connective
 use Rattle.own_tree.specs.declared.typed.Passing.{Passing}
 use Rattle.own_tree.specs.declared.typed.TypedPath.{TypedPath}
-use Rattle.own_tree.specs.TypedSource.{TPat, TPats, TExp, number, text, truth, path, parenthesized, consumed, negated, inverted, arithmetic, wrapping, compared, logic, choice, member, call, address, closure, function, TExps, no_exps, exp, TWhen, case_of, case_where, default, TStm, let_in, declare, ignore, assign, update, discard_self, if_then, if_else, else_if, loop_while, loop_repeat, loop_for, switch, leave, go_on, return_none, return_value, evaluate, TStms, no_stms, stm, TClauses, no_clauses, clause, TBlk, block, TBody, Program}
-use Rattle.own_table.specs.Ops.{ended, has_result, is_path, turn_binding, binds_twice}
-use Rattle.own_table.specs.Types.{Types, Shape, copyable, tracked}
+use Rattle.own_tree.specs.TypedSource.{TPat, TExp, number, text, truth, path, parenthesized, consumed, negated, inverted, arithmetic, wrapping, compared, logic, choice, member, call, address, closure, function, TExps, no_exps, exp, TWhen, case_of, case_where, default, TStm, let_in, declare, ignore, assign, update, discard_self, if_then, if_else, else_if, loop_while, loop_repeat, loop_for, switch, leave, go_on, return_none, return_value, evaluate, TStms, no_stms, stm, TClauses, no_clauses, clause, TBlk, block, TBody, Program}
+use Rattle.own_table.specs.Ops.{ended, has_result, binds_twice}
+use Rattle.own_table.specs.Types.{Types, is_copyable, tracked}
 use Rattle.own_table.specs.Within.{node_of, path_of, pattern_bindings, patterns_bindings, locals}
 use Rattle.own_runs.specs.Arithmetic.{compute, wrapped, as_int, as_bool, compare_vals}
 use Rattle.own_runs.specs.Calls.{slots_of, lend_all, construct, binding_at, shape_of_binding, locate, take_value, pass, apply, end_lent}
@@ -23,7 +23,7 @@ use Rattle.own_runs.specs.Loops.{Flow, onward, broke, continued, returned, then_
 use Rattle.own_runs.specs.Patterns.{chosen, bound_parts, end_rest}
 use Rattle.own_runs.specs.Store.{binding, result, Location, Slot, absent, holds, refers, runs, State, Act, or_found, with_at, slot_at, set_slot, begin, finish, peek, put, read, vacate, move, root_at, below, hold, take_turn, take_level, note}
 use Rattle.own_runs.specs.Values.{Val, int, bool, unit, struct, variant, hole, is_whole, vacant, opened, Part, field}
-use Rattle.own_runs.specs.Ways.{Way, gives, traps, stops, errs, strays, ◌>>=◌, ◌>>◌, pure, trap, stop, err, stray, pick, or_stray}
+use Rattle.own_runs.specs.Ways.{Way, gives, traps, stops, errs, strays, ◌>>=◌, ◌>>◌, pure, trap, stop, stray, pick, or_stray}
 
 abbrev pub EMPTY_RANGE : ℕ
 EMPTY_RANGE = 4
@@ -145,16 +145,16 @@ module _ (types : Types) (program : Program) (run : Call) (me level : ℕ) where
   subject_at true p e = eval e >>= hold me (node_of e)
 
   abbrev pub subject : TExp → Act Location
-  subject e = subject_at (copyable (types.shape (node_of e).ty)) (path_of e) e
+  subject e = subject_at (is_copyable types (node_of e).ty) (path_of e) e
 
   -- A binding that is borrowed stands for its part, and one that is owned takes it: a copy of what is copyable.
   abbrev pub bind_as : Mode → Bool → ℕ → Location → Act (Unit {0})
-  bind_as mode.PatternBorrowed is_copyable x l = set_slot me x (refers l)
-  bind_as mode.PatternOwned is_copyable x l = pick is_copyable (read l) (move l) >>= λ v. set_slot me x (holds v)
-  bind_as m is_copyable x l = stray
+  bind_as mode.PatternBorrowed copies x l = set_slot me x (refers l)
+  bind_as mode.PatternOwned copies x l = pick copies (read l) (move l) >>= λ v. set_slot me x (holds v)
+  bind_as m copies x l = stray
 
   abbrev pub bind_part : ℕ → Location → Act (Unit {0})
-  bind_part x l = binding_at types program run me level x >>= λ b. bind_as b.mode (copyable (types.shape b.ty)) x l
+  bind_part x l = binding_at types program run me level x >>= λ b. bind_as b.mode (is_copyable types b.ty) x l
 
   abbrev pub bind_all : List (ℕ × List Part) → Location → Act (Unit {0})
   bind_all [] l = pure tt

@@ -1,9 +1,9 @@
 -- The store of a run, and the steps that look at it and change it.
-use Rattle.std.specs.Prelude.{ℕ, zero, suc, ◌+◌, ◌-◌, ℤ, pos, Bool, ◌==◌, nat_le, List, [], ◌∷◌, ◌++◌, length, take, slice_get, slice_set, Option, Some, None, if◌then◌else◌}
+use Rattle.std.specs.Prelude.{ℕ, zero, suc, ◌+◌, ◌-◌, ℤ, pos, ◌==◌, nat_le, List, [], ◌∷◌, ◌++◌, length, take, slice_get, slice_set, Option, Some, if◌then◌else◌}
 use Rattle.own_tree.specs.declared.limits.TheConstants.{MOST_LEVELS}
 use Rattle.own_tree.specs.declared.typed.At.{At}
-use Rattle.own_runs.specs.Events.{Event, made, Item, printed, happened}
-use Rattle.own_runs.specs.Values.{Val, int, hole, struct, Vals, is_whole, emptied, Part, Found, found, hollow, nowhere, value_at, with_value_at}
+use Rattle.own_runs.specs.Events.{Event, made, Item, happened}
+use Rattle.own_runs.specs.Values.{Val, int, struct, Vals, is_whole, emptied, Part, Found, found, hollow, nowhere, value_at, with_value_at}
 use Rattle.own_runs.specs.Ways.{Step, ◌>>=◌, ◌>>◌, pure, trap, stop, err, stray, look, change, pick, or_stray}
 
 -- ---- the store
