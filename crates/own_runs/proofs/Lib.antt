@@ -6,4 +6,5 @@ pub mod Related
 pub mod Growing
 pub mod GoingOn
 pub mod Depths
+pub mod Parts
 pub mod Proved

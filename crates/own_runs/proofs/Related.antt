@@ -33,7 +33,7 @@ use Rattle.own_runs.specs.Destruction.{Passed, given, lent, lent_temporary, clos
 use Rattle.own_runs.specs.Events.{Event, made, used, Item, happened}
 use Rattle.own_runs.specs.Loops.{Flow, onward, broke, continued, returned, then_go, after_turn, while_turns, repeat_turns, for_turns}
 use Rattle.own_runs.specs.Patterns.{chosen, bound_parts, case_shapes, end_rest, end_payloads}
-use Rattle.own_runs.specs.Run.{last_of, forget, connected, eval, eval_all, test, drop_value, assign_value, end_slot, end_all, leave_scope, subject_at, bind_as, bind_part, bind_all, holds_guard, take_apart, run_clause, late_parts, clause_names, clause_or, exec, exec_all, exec_block, exec_turn, exec_clauses, exec_body, completed, come_back, made_self, result_value, body_value, init_slots, entry_slots, run_body, entered}
+use Rattle.own_runs.specs.Run.{last_of, forget, connected, eval, eval_all, test, drop_value, assign_value, end_slot, end_all, leave_scope, subject_at, bind_as, bind_part, bind_all, holds_guard, take_apart, take_clause, run_clause, late_parts, clause_names, clause_or, exec, exec_all, exec_block, exec_turn, exec_clauses, exec_body, completed, come_back, made_self, result_value, body_value, init_slots, entry_slots, run_body, entered}
 use Rattle.own_runs.specs.Store.{Root, binding, temporary, result, Location, Slot, absent, holds, refers, runs, Activation, State, Act, or_found, activation, set_activation, slot_at, set_slot, begin, finish, own_value, root_value, peek, put, read, vacate, move, hold, take_turn, take_level, log_item, note, born, read_input, first_or_zero, after_first, root_at, below}
 use Rattle.own_runs.specs.Values.{Val, int, bool, unit, struct, variant, hole, Vals, is_whole, all_whole, emptied, vacant, Part, field, payload, Found, found, hollow, nowhere, value_at, with_value_at}
 use Rattle.own_runs.specs.Ways.{◌>>=◌, ◌>>◌, pure, trap, err, stray, look, change, pick, or_stray}
@@ -599,11 +599,16 @@ module _ (Rel : (A : Type 0) → Act A → Act A → Type 0) (closed_ : IsClosed
       take_apart_r true p e l = next_r (end_rest_r p (types.shape (node_of e).ty) l level) (vacate_r l)
       take_apart_r false p e l = pure_r tt
 
+      pub take_clause_r : (e : TExp) (head : TWhen) (p : TPat) (l : Location) (names : List ℕ) {body body' : Act Flow} → Rel _ body body'
+          → Rel _ (take_clause types program run me level e head p l names body) (take_clause types program run' me level e head p l names body')
+      take_clause_r e head p l names h =
+          next_r (bind_all_r (late_parts (binds_twice types program e) head (bound_parts p [])) l)
+          (next_r (take_apart_r (binds_twice types program e) p e l) (then_r h (λ f. leave_scope_r names f)))
+
       pub run_clause_r : (e : TExp) (head : TWhen) (p : TPat) (l : Location) (names : List ℕ) {body body' next next' : Act Flow} → Rel _ body body' → Rel _ next next'
           → Rel _ (run_clause types program run me level e head p l names body next) (run_clause types program run' me level e head p l names body' next')
       run_clause_r e head p l names h k =
-          next_r (bind_all_r (bound_parts p []) l) (then_r (holds_guard_r head) (λ go. pick_r go
-          (then_r (next_r (next_r (bind_all_r (late_parts (binds_twice types program e) head (bound_parts p [])) l) (take_apart_r (binds_twice types program e) p e l)) h) (λ f. leave_scope_r names f)) k))
+          next_r (bind_all_r (bound_parts p []) l) (then_r (holds_guard_r head) (λ go. pick_r go (take_clause_r e head p l names h) k))
 
       pub clause_or_r : (e : TExp) (head : TWhen) (o : Option TPat) (l : Location) (names : List ℕ) {body body' next next' : Act Flow} → Rel _ body body' → Rel _ next next'
           → Rel _ (clause_or types program run me level e head o l names body next) (clause_or types program run' me level e head o l names body' next')

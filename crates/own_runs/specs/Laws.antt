@@ -1,9 +1,10 @@
 -- What is proved of the definitions, for contracts to cite.
-use Rattle.std.specs.Prelude.{◌≡◌, ℕ, suc, ◌≤◌, ◌<◌, ℤ, ◌⊎◌, List, [], ◌++◌, None}
+use Rattle.std.specs.Prelude.{◌≡◌, ◌≢◌, ℕ, suc, ◌≤◌, ◌<◌, ℤ, ◌⊎◌, List, [], ◌∷◌, ◌++◌, None}
 use Rattle.own_tree.specs.TypedSource.{Program}
 use Rattle.own_table.specs.Types.{Types}
 use Rattle.own_runs.specs.Run.{Behaviour, Cut, output, traced_output, events, behaviour, run_to, start, run_of}
 use Rattle.own_runs.specs.Store.{State}
+use Rattle.own_runs.specs.Values.{Val, Part, Found, found, value_at, with_value_at}
 use Rattle.own_runs.specs.Ways.{stops}
 
 -- one list stands at the front of another
@@ -42,3 +43,19 @@ abbrev pub StopsOutOfTurns : Type 0
 StopsOutOfTurns =
     (types : Types) (program : Program) (input : List ℤ) (turns : ℕ) (s : State)
     → run_to types program (suc turns) program.main None [] 0 (start input turns) ≡ stops s → s.turns ≡ 0
+
+-- two ways into a value part at some step
+abbrev pub AreApart : List Part → List Part → Type 0
+AreApart [] other = ⊥
+AreApart (part ∷ way) [] = ⊥
+AreApart (part ∷ way) (next ∷ other) = (part ≢ next) ⊎ ((part ≡ next) × AreApart way other)
+
+-- What is written at a place of a value stands there, and what lies apart from it is as before.
+abbrev pub WritesAreRead : Type 0
+WritesAreRead =
+    (way : List Part) (new old changed : Val) → with_value_at way new old ≡ found changed → value_at way changed ≡ found new
+
+abbrev pub WritesStayApart : Type 0
+WritesStayApart =
+    (way other : List Part) (new old changed : Val) → AreApart way other → with_value_at way new old ≡ found changed
+    → value_at other changed ≡ value_at other old

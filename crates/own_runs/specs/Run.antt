@@ -170,12 +170,21 @@ module _ (types : Types) (program : Program) (run : Call) (me level : ℕ) where
   take_apart true p e l = end_rest program run p (types.shape (node_of e).ty) l level >> vacate l
   take_apart false p e l = pure tt
 
-  -- The pattern that was chosen binds its names, and where the guard holds the body runs.
+  -- A clause is taken: the names that only the body sees are bound, the rest of a consumed subject is destroyed, and
+  -- the body runs.
+  abbrev pub take_clause : TExp → TWhen → TPat → Location → List ℕ → (body : Act Flow) → Act Flow
+  take_clause e head p l names body = do
+    bind_all (late_parts (binds_twice types program e) head (bound_parts p [])) l
+    take_apart (binds_twice types program e) p e l
+    f ← body
+    leave_scope names f
+
+  -- The pattern that was chosen binds its names, and the clause is taken where its guard holds.
   abbrev pub run_clause : TExp → TWhen → TPat → Location → List ℕ → (body next : Act Flow) → Act Flow
   run_clause e head p l names body next = do
     bind_all (bound_parts p []) l
     go ← holds_guard head
-    pick go (bind_all (late_parts (binds_twice types program e) head (bound_parts p [])) l >> take_apart (binds_twice types program e) p e l >> body >>= leave_scope names) next
+    pick go (take_clause e head p l names body) next
 
   abbrev pub clause_or : TExp → TWhen → Option TPat → Location → List ℕ → (body next : Act Flow) → Act Flow
   clause_or e head None l names body next = next

@@ -1,6 +1,6 @@
 //! Laws of the definitions. Each function does nothing; its contract is the law.
 
-ghost use Rattle.own_runs.specs.Laws.{DepthsAgree, OutputsGoOn, RunsGoOn, StopsOutOfTurns};
+ghost use Rattle.own_runs.specs.Laws.{DepthsAgree, OutputsGoOn, RunsGoOn, StopsOutOfTurns, WritesAreRead, WritesStayApart};
 
 /// With more turns a run that was cut goes on, and any other is the same.
 pub fn runs_go_on()
@@ -20,4 +20,14 @@ pub fn depths_agree()
 /// A run that stops for want of turns has none left.
 pub fn stops_out_of_turns()
     ensures { StopsOutOfTurns }
+{}
+
+/// What is written at a place of a value stands there.
+pub fn writes_are_read()
+    ensures { WritesAreRead }
+{}
+
+/// A write at a place of a value changes nothing that lies apart from it.
+pub fn writes_stay_apart()
+    ensures { WritesStayApart }
 {}

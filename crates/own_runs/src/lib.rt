@@ -4,4 +4,6 @@
 
 pub mod laws;
 
-pub use laws::{depths_agree, outputs_go_on, runs_go_on, stops_out_of_turns};
+pub use laws::{
+    depths_agree, outputs_go_on, runs_go_on, stops_out_of_turns, writes_are_read, writes_stay_apart,
+};
