@@ -7,4 +7,6 @@ pub mod Growing
 pub mod GoingOn
 pub mod Depths
 pub mod Parts
+pub mod LongRuns
+pub mod Promises
 pub mod Proved

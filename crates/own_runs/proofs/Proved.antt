@@ -1,7 +1,8 @@
 -- The laws, as the contracts name them.
-use Rattle.own_runs.specs.Laws.{RunsGoOn, OutputsGoOn, DepthsAgree, StopsOutOfTurns, WritesAreRead, WritesStayApart}
+use Rattle.own_runs.specs.Laws.{RunsGoOn, OutputsGoOn, DepthsAgree, StopsOutOfTurns, WritesAreRead, WritesStayApart, UntouchedByLongRuns, OnceByLongRuns}
 use Rattle.own_runs.proofs.Depths as depths
 use Rattle.own_runs.proofs.GoingOn as going
+use Rattle.own_runs.proofs.LongRuns as long
 use Rattle.own_runs.proofs.Parts as parts
 
 pub runs_go_on : RunsGoOn
@@ -21,3 +22,9 @@ writes_are_read = parts.writes_are_read
 
 pub writes_stay_apart : WritesStayApart
 writes_stay_apart = parts.writes_stay_apart
+
+pub untouched_by_long_runs : UntouchedByLongRuns
+untouched_by_long_runs = long.untouched_by_long_runs
+
+pub once_by_long_runs : OnceByLongRuns
+once_by_long_runs = long.once_by_long_runs

@@ -15,7 +15,7 @@ use Rattle.own_table.specs.Types.{Types, types_declared}
 use Rattle.own_runs.specs.Run.{Ended, Cut, Wrong, run_of}
 use Rattle.own_runs.proofs.Spelled.{answer, traced_answer, lines, sp, node, at, path_at, p, i, v, w, exps, blk, do_, say, read_int, equal, has, ends, noncopyable_struct, types_with, bound, body_with, function_body, main_body, file_decl, with_file, new, take_, write_, close_, f, file_types, local_file, local_int}
 
-abbrev two_files : Program
+abbrev pub two_files : Program
 two_files = with_file 5 (
     main_body (
     let_in (node 1) 7 (new 2 (i 3 1)) ∷ let_in (node 4) 8 (new 5 (i 6 2)) ∷ write_ 7 (f 8 7) (i 9 10) ∷ close_ 10 (f 11 7)

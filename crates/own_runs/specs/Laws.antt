@@ -2,9 +2,10 @@
 use Rattle.std.specs.Prelude.{◌≡◌, ◌≢◌, ℕ, suc, ◌≤◌, ◌<◌, ℤ, ◌⊎◌, List, [], ◌∷◌, ◌++◌, None}
 use Rattle.own_tree.specs.TypedSource.{Program}
 use Rattle.own_table.specs.Types.{Types}
-use Rattle.own_runs.specs.Run.{Behaviour, Cut, output, traced_output, events, behaviour, run_to, start, run_of}
+use Rattle.own_runs.specs.Once.{life, IsLife, IsMade, HasEnd, IsUntouched, EndsOnce}
+use Rattle.own_runs.specs.Run.{Behaviour, Ended, Cut, Wrong, output, traced_output, events, behaviour, run_to, start, run_of}
 use Rattle.own_runs.specs.Store.{State}
-use Rattle.own_runs.specs.Values.{Val, Part, Found, found, value_at, with_value_at}
+use Rattle.own_runs.specs.Values.{Val, Part, found, value_at, with_value_at}
 use Rattle.own_runs.specs.Ways.{stops}
 
 -- one list stands at the front of another
@@ -59,3 +60,22 @@ abbrev pub WritesStayApart : Type 0
 WritesStayApart =
     (way other : List Part) (new old changed : Val) → AreApart way other → with_value_at way new old ≡ found changed
     → value_at other changed ≡ value_at other old
+
+-- To show a program untouched, and that it ends each value once, it is enough to look at runs with more turns.
+abbrev pub UntouchedByLongRuns : Type 0
+UntouchedByLongRuns =
+    (types : Types) (program : Program)
+    → ((input : List ℤ) (turns : ℕ) → (n : ℕ) × (turns ≤ n) × ((run_of types program input n).outcome ≢ Wrong))
+    → IsUntouched types program
+
+-- the life of each number is one in the run, and where that ends each number that was born has ended
+abbrev pub IsOrderly : Types → Program → List ℤ → (turns number : ℕ) → Type 0
+IsOrderly types program input turns number =
+    IsLife (life types program input turns number)
+    × ((run_of types program input turns).outcome ≡ Ended → IsMade (life types program input turns number) → HasEnd (life types program input turns number))
+
+abbrev pub OnceByLongRuns : Type 0
+OnceByLongRuns =
+    (types : Types) (program : Program)
+    → ((input : List ℤ) (turns number : ℕ) → (n : ℕ) × (turns ≤ n) × IsOrderly types program input n number)
+    → EndsOnce types program

@@ -1,6 +1,6 @@
 //! Laws of the definitions. Each function does nothing; its contract is the law.
 
-ghost use Rattle.own_runs.specs.Laws.{DepthsAgree, OutputsGoOn, RunsGoOn, StopsOutOfTurns, WritesAreRead, WritesStayApart};
+ghost use Rattle.own_runs.specs.Laws.{DepthsAgree, OutputsGoOn, RunsGoOn, StopsOutOfTurns, UntouchedByLongRuns, OnceByLongRuns, WritesAreRead, WritesStayApart};
 
 /// With more turns a run that was cut goes on, and any other is the same.
 pub fn runs_go_on()
@@ -30,4 +30,14 @@ pub fn writes_are_read()
 /// A write at a place of a value changes nothing that lies apart from it.
 pub fn writes_stay_apart()
     ensures { WritesStayApart }
+{}
+
+/// A program is untouched where each of its runs is that of one with more turns that is not wrong.
+pub fn untouched_by_long_runs()
+    ensures { UntouchedByLongRuns }
+{}
+
+/// A program ends each value once where for each of its runs one with more turns does.
+pub fn once_by_long_runs()
+    ensures { OnceByLongRuns }
 {}

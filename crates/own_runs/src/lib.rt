@@ -5,5 +5,6 @@
 pub mod laws;
 
 pub use laws::{
-    depths_agree, outputs_go_on, runs_go_on, stops_out_of_turns, writes_are_read, writes_stay_apart,
+    depths_agree, once_by_long_runs, outputs_go_on, runs_go_on, stops_out_of_turns,
+    untouched_by_long_runs, writes_are_read, writes_stay_apart,
 };
