@@ -1,0 +1,12 @@
+pub mod Spelled
+pub mod Rows
+pub mod MoreRows
+pub mod WayRules
+pub mod Related
+pub mod Growing
+pub mod GoingOn
+pub mod Depths
+pub mod Parts
+pub mod LongRuns
+pub mod Promises
+pub mod Proved

@@ -1,0 +1,12 @@
+pub mod Ways
+pub mod Values
+pub mod Events
+pub mod Store
+pub mod Arithmetic
+pub mod Loops
+pub mod Destruction
+pub mod Calls
+pub mod Patterns
+pub mod Run
+pub mod Once
+pub mod Laws
