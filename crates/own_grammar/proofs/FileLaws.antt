@@ -1,5 +1,5 @@
 -- What reading a file says of the trees that spell it.
-use Rattle.std.proofs.Common.{◌≡◌, ℕ, ◌≤◌, ◌<◌, Bool, cond, max, true, false, List, [], length, Option, Some, None, Result, Ok, Err, ◌⊎◌, inl, inr, refl, sym, ap, subst, arith, codes}
+use Rattle.std.proofs.Common.{◌≡◌, ℕ, ◌≤◌, ◌<◌, Bool, cond, max, true, false, List, [], length, Option, Some, None, Result, Ok, Err, ◌⊎◌, inl, inr, refl, sym, ap, subst, arith, codes, ◌++◌, ◌∷◌}
 use Rattle.own_tree.specs.declared.span.Span.{Span}
 use Rattle.own_tree.specs.declared.token.Word.{Word}
 use Rattle.own_tree.specs.declared.token.Word.TheVariants as word
@@ -10,14 +10,14 @@ use Rattle.own_tree.specs.Source.{Member, Decl, struct_of, enum_of, function, Fi
 use Rattle.own_grammar.specs.declared.Context.TheVariants.{Plain}
 use Rattle.own_grammar.specs.Tests.{Toks, after, here, till, kind_at, is_mark, is_word, name_at, opens, is_none, is_over}
 use Rattle.own_grammar.specs.Nesting.{nest_blk}
-use Rattle.own_grammar.specs.Reading.{Fault, Syntax, Depth, Read, ◌>>=◌}
+use Rattle.own_grammar.specs.Reading.{Fault, Syntax, Depth, Read, ◌>>=◌, sep_at}
 use Rattle.own_grammar.specs.Lists.{Separated, greatest, separated_on}
 use Rattle.own_grammar.specs.Declarations.{is_named, SpellsStructMember, SpellsEnumMember, Noncopyable, SpellsMembers, SpellsDeclaration, SpellsMain, Spells, nest_member, nest_declaration, nest_file}
 use Rattle.own_grammar.specs.ReadingFile.{wanted, function_with, struct_member_with, enum_member_with, noncopyable_with, members_with, named_with, declaration_with, end_with, main_with, is_main, read_file}
 use Rattle.own_grammar.specs.PartialFile.{PDecl, p_struct, p_enum, p_function, PFile, nest_pd, nest_pf, PartDeclaration, Part}
 use Rattle.own_grammar.proofs.Facts.{mark_kind, word_kind, at_mark, at_word}
 use Rattle.own_grammar.proofs.Lengths.{after_short, after_le}
-use Rattle.own_grammar.proofs.ListLaws.{Told, separated_complete, separated_sound, separated_deep, separated_le}
+use Rattle.own_grammar.proofs.ListLaws.{Told, separated_complete, separated_sound, separated_deep, separated_le, separated_is}
 use Rattle.own_grammar.proofs.Parameters.{wanted_is, wanted_ok, wanted_deep}
 use Rattle.own_grammar.proofs.Members.{Follows, told_then, told_same, function_told, function_sound, function_deep, function_short, struct_member_told, struct_member_sound, struct_member_deep, struct_member_short, struct_member_word, enum_member_told, enum_member_sound, enum_member_deep, enum_member_short, enum_member_word}
 use Rattle.own_grammar.proofs.Steps.{done, bind_ok, ok_is, chosen, kept, some_kept, bind_err, bind_deep, syn, some_syn, no_ok}
@@ -94,6 +94,9 @@ module _ (most : ℕ) (S : Member → Toks → Toks → Type 0) (item : Toks →
       let q = wanted_ok (is_mark mark.OpenBrace ts) ts (separated_on (is_mark mark.CloseBrace) item [] (after ts)) x e in
       let s = separated_sound most S (is_mark mark.CloseBrace) item nest_member Follows told snd short semicolon_follows part_follows [] (after ts) x q.1 in
       rw s.1 (mark_kind mark.OpenBrace ts q.0, s.2, mark_kind mark.CloseBrace x.1 s.4, s.3)
+
+  members_is : (found : List Member) (ts : Toks) → separated_on (is_mark mark.CloseBrace) item found ts ≡ cond (is_mark mark.CloseBrace ts) (done (found, ts)) (item ts >>= λ x. sep_at true x.1 >>= λ next. separated_on (is_mark mark.CloseBrace) item (found ++ x.0 ∷ []) next)
+  members_is found ts = separated_is most S (is_mark mark.CloseBrace) item nest_member Follows told snd short semicolon_follows part_follows found ts
 
   abbrev NamedRead : (Span → Name → Bool → List Member → Decl) → Word → Decl → Toks → Toks → Type 0
   NamedRead make w d from to = (s : Span) × (n : Name) × (b : Bool) × (ms : List Member) × (d ≡ make s n b ms) × SpellsMembers w S s n b ms from to × (greatest nest_member ms ≤ most)
@@ -347,3 +350,14 @@ file_syntax most n from e f sp = elim (file_told most f from sp) [
   | inl y ↦ syntax_no_ok (read_file most from) n f e y.1
   | inr y ↦ syntax_no_depth (read_file most from) n y.1.0 e y.1.1
 ]
+
+-- ---- one turn of each loop
+
+pub struct_list_is : (most : ℕ) (found : List Member) (ts : Toks) → separated_on (is_mark mark.CloseBrace) (struct_member_with most) found ts ≡ cond (is_mark mark.CloseBrace ts) (done (found, ts)) (struct_member_with most ts >>= λ x. sep_at true x.1 >>= λ next. separated_on (is_mark mark.CloseBrace) (struct_member_with most) (found ++ x.0 ∷ []) next)
+struct_list_is most found ts = members_is most SpellsStructMember (struct_member_with most) (struct_told most) (struct_member_sound most) (struct_member_short most) (struct_member_word most) found ts
+
+pub enum_list_is : (most : ℕ) (found : List Member) (ts : Toks) → separated_on (is_mark mark.CloseBrace) (enum_member_with most) found ts ≡ cond (is_mark mark.CloseBrace ts) (done (found, ts)) (enum_member_with most ts >>= λ x. sep_at true x.1 >>= λ next. separated_on (is_mark mark.CloseBrace) (enum_member_with most) (found ++ x.0 ∷ []) next)
+enum_list_is most found ts = members_is most SpellsEnumMember (enum_member_with most) (enum_member_told most) (enum_member_sound most) (enum_member_short most) (enum_member_word most) found ts
+
+pub declaration_list_is : (most : ℕ) (found : List Decl) (ts : Toks) → separated_on is_main (declaration_with most) found ts ≡ cond (is_main ts) (done (found, ts)) (declaration_with most ts >>= λ x. sep_at true x.1 >>= λ next. separated_on is_main (declaration_with most) (found ++ x.0 ∷ []) next)
+declaration_list_is most found ts = separated_is most SpellsDeclaration is_main (declaration_with most) nest_declaration Free (declaration_told most) (declaration_sound most) (declaration_short most) (λ ts k. tt) (part_free most) found ts

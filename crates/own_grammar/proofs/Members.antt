@@ -1,5 +1,5 @@
 -- Members: what is spelled is read, or too deep, and what is read is spelled.
-use Rattle.std.proofs.Common.{◌≡◌, ℕ, ◌≤◌, ◌<◌, cond, true, false, List, [], ◌∷◌, length, Option, Some, None, Ok, Err, inl, inr, refl, ap, ◌∙◌, arith}
+use Rattle.std.proofs.Common.{◌≡◌, ℕ, ◌≤◌, ◌<◌, cond, true, false, List, [], ◌∷◌, length, Option, Some, None, Ok, Err, inl, inr, refl, ap, ◌∙◌, arith, ◌++◌}
 use Rattle.own_tree.specs.declared.span.Span.{Span}
 use Rattle.own_tree.specs.declared.token.Word.{Word}
 use Rattle.own_tree.specs.declared.token.Word.TheVariants as word
@@ -27,7 +27,7 @@ use Rattle.own_grammar.proofs.Facts.{mark_kind, word_kind, at_mark, at_word, key
 use Rattle.own_grammar.proofs.Edges.{at_keyword}
 use Rattle.own_grammar.proofs.Lengths.{after_short, after_le}
 use Rattle.own_grammar.proofs.Shorter.{short_b}
-use Rattle.own_grammar.proofs.ListLaws.{Told, listed_complete, listed_sound, listed_shallow, listed_le}
+use Rattle.own_grammar.proofs.ListLaws.{Told, listed_complete, listed_sound, listed_shallow, listed_le, listed_is}
 use Rattle.own_grammar.proofs.Parameters.{wanted_ok, wanted_deep, name_no_mark, returns_is, returns_sound, returns_shallow, returns_le, parameters_is, parameters_sound, parameters_shallow, parameters_le}
 use Rattle.own_grammar.proofs.Steps.{done, le_tells, bind_is, bind_ok, ok_is, chosen, some_or, some_kept, bind_err, bind_deep, some_syn, no_ok}
 use Rattle.own_grammar.proofs.Laws.{block_again, block_found, block_deep}
@@ -496,3 +496,11 @@ module _ (most : ℕ) where
   enum_member_word (deinitializer s b) from to sp = (word.Deinit, sp.0)
   enum_member_word (method s m f) from to sp = method_word s m f from to sp
   enum_member_word (cases s items) from to sp = (word.Case, sp.0)
+
+-- ---- one turn of each loop
+
+pub name_list_is : (found : List Name) (ts : Toks) → listed_on name_with found ts ≡ (name_with ts >>= λ x. cond (is_mark mark.Comma x.1) (listed_on name_with (found ++ x.0 ∷ []) (after x.1)) (done (found ++ x.0 ∷ [], x.1)))
+name_list_is found ts = listed_is SpellsName name_with Free name_is name_sound name_le (λ ts k. tt) name_starts name_shallow found ts
+
+pub item_list_is : (found : List CaseItem) (ts : Toks) → listed_on item_with found ts ≡ (item_with ts >>= λ x. cond (is_mark mark.Comma x.1) (listed_on item_with (found ++ x.0 ∷ []) (after x.1)) (done (found ++ x.0 ∷ [], x.1)))
+item_list_is found ts = listed_is SpellsItem item_with Unopened item_is item_sound item_le comma_unopened item_starts item_shallow found ts

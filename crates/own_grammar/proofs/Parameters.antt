@@ -1,5 +1,5 @@
 -- Results, types and parameters: what is spelled is read, and what is read is spelled.
-use Rattle.std.proofs.Common.{◌≡◌, ℕ, ◌≤◌, Bool, true, false, List, [], ◌∷◌, length, Option, Some, None, Ok, Err, inl, inr, refl, sym, ap, ◌∙◌, arith}
+use Rattle.std.proofs.Common.{◌≡◌, ℕ, ◌≤◌, Bool, true, false, List, [], ◌∷◌, length, Option, Some, None, Ok, Err, inl, inr, refl, sym, ap, ◌∙◌, arith, cond, ◌++◌}
 use Rattle.own_tree.specs.declared.span.Span.{Span}
 use Rattle.own_tree.specs.declared.token.Word.{Word}
 use Rattle.own_tree.specs.declared.token.Mark.{Mark}
@@ -18,12 +18,12 @@ use Rattle.own_tree.specs.declared.tree.ResultType.{ResultType}
 use Rattle.own_tree.specs.declared.tree.ResultType.TheVariants as answer
 use Rattle.own_grammar.specs.Tests.{Toks, after, here, till, kind_at, is_mark, name_at, name_in}
 use Rattle.own_grammar.specs.Reading.{Syntax, Depth, Read, ◌>>=◌, syntax_at, on_some}
-use Rattle.own_grammar.specs.Lists.{Bracketed, bracketed_with}
+use Rattle.own_grammar.specs.Lists.{Bracketed, bracketed_with, listed_on}
 use Rattle.own_grammar.specs.Declarations.{passing_in, passing_at, Moded, result_span, SpellsResult, Returns, SpellsInner, type_span, SpellsType, Labelled, SpellsParameter, SpellsParameters}
 use Rattle.own_grammar.specs.ReadingFile.{wanted, result_with, returns_with, moded_with, inner_with, arrow_with, type_with, labelled_with, parameter_with, parameters_with}
 use Rattle.own_grammar.proofs.Facts.{mark_kind, at_mark, name_kind, name_span}
 use Rattle.own_grammar.proofs.Lengths.{after_le}
-use Rattle.own_grammar.proofs.ListLaws.{bracketed_complete, bracketed_sound, bracketed_shallow, bracketed_le}
+use Rattle.own_grammar.proofs.ListLaws.{bracketed_complete, bracketed_sound, bracketed_shallow, bracketed_le, listed_is}
 use Rattle.own_grammar.proofs.Steps.{done, bind_ok, ok_is, chosen, kept, some_or, some_kept, bind_err, bind_deep, syn, some_syn, no_ok}
 
 -- ---- tests
@@ -327,3 +327,11 @@ parameters_shallow ts n e = bracketed_shallow SpellsParameter parameter_with Fre
 
 pub parameters_le : (ps : List Parameter) (from to : Toks) → SpellsParameters ps from to → length to ≤ length from
 parameters_le ps from to (last, sp, is) = rw is (let a = bracketed_le SpellsParameter parameter_with Free parameter_is parameter_sound parameter_le (λ ts k. tt) parameter_starts parameter_shallow ps from last sp in let b = after_le last in omega arith)
+
+-- ---- one turn of each loop
+
+pub inner_list_is : (found : List FunctionParameter) (ts : Toks) → listed_on inner_with found ts ≡ (inner_with ts >>= λ x. cond (is_mark mark.Comma x.1) (listed_on inner_with (found ++ x.0 ∷ []) (after x.1)) (done (found ++ x.0 ∷ [], x.1)))
+inner_list_is found ts = listed_is SpellsInner inner_with Free inner_is inner_sound inner_le (λ ts k. tt) inner_starts inner_shallow found ts
+
+pub parameter_list_is : (found : List Parameter) (ts : Toks) → listed_on parameter_with found ts ≡ (parameter_with ts >>= λ x. cond (is_mark mark.Comma x.1) (listed_on parameter_with (found ++ x.0 ∷ []) (after x.1)) (done (found ++ x.0 ∷ [], x.1)))
+parameter_list_is found ts = listed_is SpellsParameter parameter_with Free parameter_is parameter_sound parameter_le (λ ts k. tt) parameter_starts parameter_shallow found ts
