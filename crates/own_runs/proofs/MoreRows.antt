@@ -10,8 +10,8 @@ use Rattle.own_tree.specs.declared.typed.BodyKind.TheVariants as body
 use Rattle.own_tree.specs.declared.typed.Comparison.TheVariants as compare
 use Rattle.own_tree.specs.declared.typed.Passing.TheVariants as passing
 use Rattle.own_tree.specs.declared.typed.Target.TheVariants as target
-use Rattle.own_tree.specs.Source.{enum_of, cases}
-use Rattle.own_tree.specs.TypedSource.{bind, any, of_case, pat, no_pats, TExp, truth, arithmetic, wrapping, compared, call, member, consumed, case_of, case_where, default, let_in, ignore, update, discard_self, if_then, if_else, loop_while, loop_repeat, loop_for, leave, go_on, switch, return_value, clause, no_clauses, TBody, Program}
+use Rattle.own_tree.specs.Source.{enum_of, cases, struct_of}
+use Rattle.own_tree.specs.TypedSource.{bind, any, of_case, pat, no_pats, TExp, truth, arithmetic, wrapping, compared, call, member, consumed, case_of, case_where, default, let_in, ignore, update, discard_self, if_then, if_else, loop_while, loop_repeat, loop_for, leave, go_on, switch, return_value, clause, no_clauses, TBody, Program, function, closure, choice, assign}
 use Rattle.own_table.specs.Types.{Types, types_declared}
 use Rattle.own_runs.specs.Run.{Outcome, Ended, Trapped, Cut, behaviour, output, run_of, run_to, start}
 use Rattle.own_runs.proofs.Spelled.{answer, traced_answer, lines, sp, node, at, in_place, path_at, p, i, v, w, exps, stms, blk, do_, say, read_int, equal, has, ends, name_at, case_with, noncopyable_struct, types_with, bound, body_with, function_body, main_body, file_decl, with_file, alone, new, f, fd, file_types, local_file, local_int}
@@ -301,3 +301,60 @@ skips_run : answer no_types skips [] 9
     ≡ (Ended, lines (codes "1" ∷ codes "3" ∷ codes "4" ∷ []))
 unfolding run_of types_declared digits
 skips_run = refl
+
+-- ---- closures and receivers
+
+-- A closure is passed on by one function to another, which calls it twice.
+abbrev passed_on : Program
+passed_on = record {
+  bodies =
+      function_body (0 ∷ []) type.Unit (
+      do_ (call (node 1) (target.Closure 0) (exps []) []) ∷ do_ (call (node 2) (target.Closure 0) (exps []) []) ∷ [])
+      ∷ function_body (1 ∷ []) type.Unit (
+      do_ (call (node 1) (target.Function 0) (exps (function (at 2 (type.Fun 0)) 1 ∷ [])) (passing.Closure ∷ [])) ∷ [])
+      ∷ main_body (
+      let_in (node 1) 2 (i 2 3)
+      ∷ do_ (call (node 3) (target.Function 1) (exps (closure (at 4 (type.Fun 0)) 3 ∷ [])) (passing.Closure ∷ []))
+      ∷ say 5 (v 6 2 [] ∷ []) ∷ [])
+      ∷ body_with (body.Closure 2) None [] type.Unit (
+      assign (node 1) (path_at 2 type.Int 2 []) (arithmetic (at 3 type.Int) arith_of.Mul (sp 3) (v 4 2 []) (i 5 2)) ∷ []) ∷ [];
+  bindings = bound (codes "body") (type.Fun 0) mode.Closure 0 ∷ bound (codes "body") (type.Fun 0) mode.Closure 1 ∷ local_int (codes "n") 2 ∷ [];
+  signatures = [];
+  main = 2;
+  tokens = 0;
+}
+
+-- It changes the captured binding of the activation that made it.
+passed_on_runs : answer no_types passed_on [] 9
+    ≡ (Ended, lines (codes "12" ∷ []))
+unfolding run_of types_declared digits
+passed_on_runs = refl
+
+abbrev counter : Ty
+counter = type.Named 0
+
+abbrev counter_types : Types
+counter_types = types_with (struct_of (sp 0) (name_at (codes "Counter")) false (has (codes "n") (codes "Int") ∷ []) ∷ [])
+
+abbrev counted : Program
+counted = record {
+  bodies =
+      body_with body.Method (Some 0) (0 ∷ 1 ∷ []) type.Unit (update (node 1) (path_at 2 type.Int 0 (0 ∷ [])) arith_of.Add (sp 1) (v 3 1 []) ∷ [])
+      ∷ main_body (
+      let_in (node 1) 2 (call (at 2 counter) (target.Memberwise 0) (exps (i 3 1 ∷ [])) (passing.ByValue ∷ []))
+      ∷ let_in (node 4) 3 (p 5 counter 2 [])
+      ∷ do_ (call (node 6) (target.Method 0) (exps (p 7 counter 2 [] ∷ i 8 4 ∷ [])) (passing.Inout ∷ passing.ByValue ∷ []))
+      ∷ say 9 (choice (at 10 type.Int) (equal 11 (v 12 2 (0 ∷ [])) (i 13 5)) (v 14 3 (0 ∷ [])) (i 15 9) ∷ v 16 2 (0 ∷ []) ∷ []) ∷ []) ∷ [];
+  bindings =
+      bound (codes "self") counter mode.SelfMutating 0 ∷ bound (codes "k") type.Int mode.Plain 0 ∷ bound (codes "c") counter mode.Var 1
+      ∷ bound (codes "d") counter mode.Let 1 ∷ [];
+  signatures = [];
+  main = 1;
+  tokens = 0;
+}
+
+-- A mutating method changes its receiver, and no copy of it.
+counted_runs : answer counter_types counted [] 9
+    ≡ (Ended, lines (codes "1 5" ∷ []))
+unfolding run_of types_declared digits
+counted_runs = refl
