@@ -17,3 +17,4 @@ pub mod Worked
 pub mod Accepted
 pub mod Single
 pub mod Proved
+pub mod Exceeded

@@ -1,5 +1,6 @@
 -- The limits of the bodies of a text, M9 to M13: what is counted in each.
 use Rattle.std.specs.Prelude.{ℕ, suc, ◌+◌, ◌*◌, Bool, true, false, not, ◌&&◌, ◌==◌, if◌then◌else◌, List, [], ◌∷◌, length, nat_lt, Option, Some, None}
+use Rattle.own_tree.specs.declared.limits.TheConstants.{MOST_BODY_SLOTS, MOST_BODY_OPS, MOST_BODY_LEAVES, MOST_BODY_MAKERS, MOST_OPS}
 use Rattle.own_tree.specs.declared.op.Op.{Op}
 use Rattle.own_tree.specs.declared.op.OpKind.{OpKind}
 use Rattle.own_tree.specs.declared.op.OpKind.TheVariants as kind
@@ -231,16 +232,16 @@ over largest count at = first_over largest (counted count at ∷ [])
 
 -- those of one body
 abbrev pub over_M9 : Types → Program → ℕ → TBody → Option Counted
-over_M9 types program k body = over 2000 (body_slots types program k body) body.span
+over_M9 types program k body = over MOST_BODY_SLOTS (body_slots types program k body) body.span
 
 abbrev pub over_M10 : Types → Program → ℕ → TBody → Option Counted
-over_M10 types program k body = over 20000 (op_count (body_ops types program body)) body.span
+over_M10 types program k body = over MOST_BODY_OPS (op_count (body_ops types program body)) body.span
 
 abbrev pub over_M11 : Types → Program → ℕ → TBody → Option Counted
-over_M11 types program k body = over 2000 (length (uses_of types program k body).leaves) body.span
+over_M11 types program k body = over MOST_BODY_LEAVES (length (uses_of types program k body).leaves) body.span
 
 abbrev pub over_M12 : Types → Program → ℕ → TBody → Option Counted
-over_M12 types program k body = let uses = uses_of types program k body in over 4096 (maker_count uses (tree_of uses)) body.span
+over_M12 types program k body = let uses = uses_of types program k body in over MOST_BODY_MAKERS (maker_count uses (tree_of uses)) body.span
 
 abbrev pub sum_of_ops : Types → Program → List TBody → ℕ
 sum_of_ops types program [] = 0
@@ -255,7 +256,7 @@ passing_body types program largest so_far (body ∷ bodies) =
 
 -- that body, with the count of the whole text
 abbrev pub over_M13 : Types → Program → Option Counted
-over_M13 types program = elim (passing_body types program 1000000 0 program.bodies) [
+over_M13 types program = elim (passing_body types program MOST_OPS 0 program.bodies) [
   | None ↦ None
   | Some at ↦ Some (counted (sum_of_ops types program program.bodies) at)
 ]

@@ -1,5 +1,5 @@
 -- What is proved of these definitions, for contracts to cite.
-use Rattle.std.specs.Prelude.{◌≡◌, ℕ, ◌≤◌, ◌⊎◌, true, false, Contains, IsTrue, List, ◌++◌, slice_get, Some}
+use Rattle.std.specs.Prelude.{◌≡◌, ℕ, ◌≤◌, ◌<◌, ◌⊎◌, true, false, Contains, IsTrue, List, ◌++◌, slice_get, Option, Some, None}
 use Rattle.own_tree.specs.declared.finding.Finding.{Finding}
 use Rattle.own_tree.specs.declared.finding.Rule.{Rule}
 use Rattle.own_tree.specs.declared.span.Span.{Span}
@@ -10,7 +10,12 @@ use Rattle.own_tree.specs.declared.place.Place.{Place}
 use Rattle.own_tree.specs.declared.place.Ty.TheVariants as type
 use Rattle.own_tree.specs.OpSource.{Ops, next}
 use Rattle.own_tree.specs.TypedSource.{TBody, Program}
-use Rattle.own_table.specs.Facts.{IsFact}
+use Rattle.own_tree.specs.declared.graph.LeafFact.TheVariants as fact
+use Rattle.own_tree.specs.declared.limits.TheConstants.{MOST_TYPES, MOST_FIELDS, MOST_BODIES, MOST_PARAMETERS, MOST_TYPE_SLOTS, MOST_BODY_SLOTS, MOST_BODY_OPS, MOST_BODY_LEAVES, MOST_BODY_MAKERS, MOST_OPS}
+use Rattle.own_tree.specs.Source.{File}
+use Rattle.own_table.specs.BodyLimits.{over_M9, over_M10, over_M11, over_M12, over_M13}
+use Rattle.own_table.specs.Facts.{IsFact, Destroys, IsAmbiguous}
+use Rattle.own_table.specs.Limits.{Counted, over_M4, over_M5, over_M6, over_M7, over_M8}
 use Rattle.own_table.specs.Findings.{Precedes, IsSameBreak, BreaksAtOp, BreaksAtReturn, FallsOff, IsBodyFinding, ArePathFindings, AreFixedFindings, AreFindings, IsSound}
 use Rattle.own_table.specs.Fixed.{binding_leaves, breaks_O8, place_of, fixed_breaks}
 use Rattle.own_table.specs.Makers.{BodyUses, uses_of}
@@ -131,3 +136,29 @@ abbrev pub TracesSplit : Type 0
 TracesSplit =
     (k : ℕ) (a b : Ops) (os : List Op) → IsTrace k (next a b) os goes_on
     → (xs : List Op) × (ys : List Op) × IsTrace k a xs goes_on × IsTrace k b ys goes_on × (os ≡ xs ++ ys)
+
+-- a leaf that each op that destroys it finds with a value on all ways, or on none, is not ambiguous
+abbrev pub SettledLeavesAreNotAmbiguous : Type 0
+SettledLeavesAreNotAmbiguous =
+    (types : Types) (program : Program) (k : ℕ) (body : TBody) (leaf : Place)
+    → ((o : Op) → Destroys types program o leaf → IsFact (uses_of types program k body) o leaf fact.Always ⊎ IsFact (uses_of types program k body) o leaf fact.Never)
+    → IsAmbiguous types program k body leaf → ⊥
+
+-- ---- limits
+
+-- what is named as over a limit has a larger count
+abbrev pub IsOver : ℕ → Option Counted → Type 0
+IsOver largest None = Unit {0}
+IsOver largest (Some c) = largest < c.count
+
+pub record LimitsAreExceeded : Type 0 where
+  pub types : (file : File) → IsOver MOST_TYPES (over_M4 file)
+  pub fields : (file : File) → IsOver MOST_FIELDS (over_M5 file)
+  pub bodies : (file : File) → IsOver MOST_BODIES (over_M6 file)
+  pub parameters : (file : File) → IsOver MOST_PARAMETERS (over_M7 file)
+  pub type_slots : (types : Types) (file : File) → IsOver MOST_TYPE_SLOTS (over_M8 types file)
+  pub body_slots : (types : Types) (program : Program) (k : ℕ) (body : TBody) → IsOver MOST_BODY_SLOTS (over_M9 types program k body)
+  pub body_ops : (types : Types) (program : Program) (k : ℕ) (body : TBody) → IsOver MOST_BODY_OPS (over_M10 types program k body)
+  pub body_leaves : (types : Types) (program : Program) (k : ℕ) (body : TBody) → IsOver MOST_BODY_LEAVES (over_M11 types program k body)
+  pub body_makers : (types : Types) (program : Program) (k : ℕ) (body : TBody) → IsOver MOST_BODY_MAKERS (over_M12 types program k body)
+  pub ops : (types : Types) (program : Program) → IsOver MOST_OPS (over_M13 types program)

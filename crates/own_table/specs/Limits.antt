@@ -1,6 +1,7 @@
 -- The limits of a text before its bodies are typed, M4 to M8: what is counted, and where.
 use Rattle.std.specs.Prelude.{ℕ, suc, ◌+◌, Bool, true, ◌&&◌, if◌then◌else◌, List, [], ◌∷◌, ◌++◌, length, slice_get, nat_lt, nat_le, Option, Some, None, codes}
 use Rattle.std.specs.Str.{bytes_eq}
+use Rattle.own_tree.specs.declared.limits.TheConstants.{MOST_TYPES, MOST_FIELDS, MOST_BODIES, MOST_PARAMETERS, MOST_TYPE_SLOTS}
 use Rattle.own_tree.specs.declared.place.Ty.{Ty}
 use Rattle.own_tree.specs.declared.place.Ty.TheVariants as type
 use Rattle.own_tree.specs.declared.span.Span.{Span}
@@ -180,16 +181,16 @@ taken_counts (a_print at n ∷ ps) = counted n at ∷ taken_counts ps
 -- ---- the limits
 
 abbrev pub over_M4 : File → Option Counted
-over_M4 file = too_many 1000 (type_names (declared_types file.declarations))
+over_M4 file = too_many MOST_TYPES (type_names (declared_types file.declarations))
 
 abbrev pub over_M5 : File → Option Counted
-over_M5 file = first_over 256 (part_counts (declared_types file.declarations))
+over_M5 file = first_over MOST_FIELDS (part_counts (declared_types file.declarations))
 
 abbrev pub over_M6 : File → Option Counted
-over_M6 file = too_many 4000 (body_places (declared_parts file.declarations))
+over_M6 file = too_many MOST_BODIES (body_places (declared_parts file.declarations))
 
 abbrev pub over_M7 : File → Option Counted
-over_M7 file = first_over 32 (taken_counts (declared_parts file.declarations))
+over_M7 file = first_over MOST_PARAMETERS (taken_counts (declared_parts file.declarations))
 
 abbrev pub over_M8 : Types → File → Option Counted
-over_M8 types file = let ds = declared_types file.declarations in first_over 64 (slot_counts types 64 ds 0 ds)
+over_M8 types file = let ds = declared_types file.declarations in first_over MOST_TYPE_SLOTS (slot_counts types MOST_TYPE_SLOTS ds 0 ds)

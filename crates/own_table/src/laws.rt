@@ -1,6 +1,6 @@
 //! Laws of the definitions. Each function does nothing; its contract is the law.
 
-ghost use Rattle.own_table.specs.Laws.{FindingsAreOneList, FindingsAreOrdered, FindingsHaveOneCause, FixedFindingsAreOneList, LeavesAreApart, LeavesHaveOneFact, OpenedLeavesAreApart, PartsAreNoLarger, PartsOfLeavesHaveNone, PathFindingsAreOneList, PlacesAreOrdered, ShapesUnfold, SoundBreaksNothing, TracesExist, TracesGoOn, TracesSplit, TracesStay};
+ghost use Rattle.own_table.specs.Laws.{FindingsAreOneList, FindingsAreOrdered, FindingsHaveOneCause, FixedFindingsAreOneList, LeavesAreApart, LeavesHaveOneFact, LimitsAreExceeded, OpenedLeavesAreApart, PartsAreNoLarger, PartsOfLeavesHaveNone, PathFindingsAreOneList, PlacesAreOrdered, SettledLeavesAreNotAmbiguous, ShapesUnfold, SoundBreaksNothing, TracesExist, TracesGoOn, TracesSplit, TracesStay};
 
 /// Where no type contains itself, a declared type has the shape of its declaration.
 pub fn shapes_unfold()
@@ -85,4 +85,14 @@ pub fn traces_exist()
 /// A trace of two parts that goes on is a trace of each of them.
 pub fn traces_split()
     ensures { TracesSplit }
+{}
+
+/// A leaf that each op that destroys it finds with a value on all ways, or on none, is not ambiguous.
+pub fn settled_leaves_are_not_ambiguous()
+    ensures { SettledLeavesAreNotAmbiguous }
+{}
+
+/// What is named as over a limit, M4 to M13, has a larger count.
+pub fn limits_are_exceeded()
+    ensures { LimitsAreExceeded }
 {}
