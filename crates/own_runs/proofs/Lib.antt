@@ -10,3 +10,4 @@ pub mod Parts
 pub mod LongRuns
 pub mod Promises
 pub mod Proved
+pub mod Falling

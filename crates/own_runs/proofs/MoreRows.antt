@@ -72,7 +72,7 @@ remainder = alone (main_body (
     let_in (node 1) 0 (read_int 2) ∷ let_in (node 3) 1 (read_int 4) ∷ say 5 (arithmetic (at 6 type.Int) arith_of.Rem (sp 64) (v 7 0 []) (v 8 1 []) ∷ []) ∷ []) ∷ [])
     (local_int (codes "a") 0 ∷ local_int (codes "b") 0 ∷ [])
 
-abbrev no_types : Types
+abbrev pub no_types : Types
 no_types = types_with []
 
 -- A remainder has the sign of the dividend.
@@ -135,7 +135,7 @@ counts_backwards = refl
 
 -- ---- turns and levels
 
-abbrev down : Program
+abbrev pub down : Program
 down = record {
   bodies =
       function_body (0 ∷ []) type.Unit (
