@@ -1,0 +1,9 @@
+//! The parser of expressions, patterns, statements and blocks.
+#![tactic(auto)]
+
+mod fault;
+mod lines;
+mod next;
+mod nodes;
+mod operators;
+mod paths;
