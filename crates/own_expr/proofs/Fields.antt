@@ -1,10 +1,9 @@
 -- The fields of a path, one after the other.
-use Rattle.std.proofs.Common.{◌≡◌, ◌≤◌, true, false, List, [], ◌∷◌, ◌++◌, length, Option, Some, None, Ok, Err, refl, sym, ◌∙◌, arith}
+use Rattle.std.proofs.Common.{◌≡◌, ◌≤◌, true, false, List, [], ◌∷◌, ◌++◌, length, Some, None, Ok, Err, refl, sym, ◌∙◌, arith}
 use Rattle.own_tree.specs.declared.token.Mark.TheVariants as mark
 use Rattle.own_tree.specs.declared.tree.Name.{Name}
 use Rattle.own_grammar.specs.Tests.{Toks, after, is_mark, name_at, kind_at}
-use Rattle.own_grammar.specs.Reading.{Syntax, on_some, syntax_at, fields_on}
-use Rattle.own_expr.specs.Gives.{Fails}
+use Rattle.own_grammar.specs.Reading.{Syntax, fields_on}
 
 pub record FieldsOn (initial : Toks) (found : List Name) (rest : Toks) : Type 0 where
   pub whole : fields_on found rest ≡ fields_on [] initial

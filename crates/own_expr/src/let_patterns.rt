@@ -3,6 +3,7 @@ ghost use Rattle.std.specs.Prelude.{◌≡◌, ◌≤◌, ◌<◌, ◌+◌, leng
 ghost use Rattle.own_expr.specs.Gives.{Gives};
 ghost use Rattle.own_grammar.specs.Nesting.{nest_let_pat, nest_let_pats};
 ghost use Rattle.own_grammar.specs.Reading as spec;
+ghost use Rattle.own_tree.specs.Source as source;
 ghost use Rattle.own_tree.specs.View.{let_pattern_view, let_pats_of};
 
 use crate::fault::ReadError;
@@ -11,7 +12,7 @@ use crate::nodes::larger;
 use crate::operators::negative_at;
 use own_tree::limits::MOST_NESTING;
 use own_tree::tree::{LetPattern, Name};
-use own_tree::{Mark, Token};
+use own_tree::{Mark, Span, Token};
 use sqlite_items::Items;
 use std::alloc::Global;
 
@@ -36,9 +37,16 @@ fn let_literal_of(rest: &[Token]) -> Result<(LetPattern, &[Token]), ReadError>
     Err(ReadError::Syntax(rest.len()))
 }
 
+/// A case with its parts.
+fn let_case(span: Span, name: Name, parts: Items<LetPattern>) -> LetPattern
+    ensures { let_pattern_view result ≡ source.let_case span name (let_pats_of (map let_pattern_view parts)) }
+{
+    LetPattern::Case(span, name, parts)
+}
+
 /// The parts of a case, after its `(`. The case begins at `from`.
 #[cycle(let_patterns)]
-#[tactic(auto, unfolding(own_grammar::specs::Reading::let_parts_with), using(crate::proofs::LetPatternList::case_nest))]
+#[tactic(auto, unfolding(own_grammar::specs::Reading::let_parts_with))]
 fn let_parts_of<'a>(
     alloc: Global,
     rest: &'a [Token],
@@ -60,7 +68,7 @@ fn let_parts_of<'a>(
         return Err(ReadError::Syntax(more.len()));
     }
     let span = till(here(from), here(more));
-    Ok((LetPattern::Case(span, name, parts), height + 1, after(more)))
+    Ok((let_case(span, name, parts), height + 1, after(more)))
 }
 
 /// A case, the dot of which is the next token.

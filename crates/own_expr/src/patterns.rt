@@ -3,6 +3,7 @@ ghost use Rattle.std.specs.Prelude.{◌≡◌, ◌≤◌, ◌<◌, ◌+◌, leng
 ghost use Rattle.own_expr.specs.Gives.{Gives};
 ghost use Rattle.own_grammar.specs.Nesting.{nest_pat, nest_pats};
 ghost use Rattle.own_grammar.specs.Reading as spec;
+ghost use Rattle.own_tree.specs.Source as source;
 ghost use Rattle.own_tree.specs.View.{pattern_view, pats_of};
 
 use crate::fault::ReadError;
@@ -12,7 +13,7 @@ use crate::nodes::{larger, let_pattern_span};
 use crate::operators::negative_at;
 use own_tree::limits::MOST_NESTING;
 use own_tree::tree::{Name, Pattern};
-use own_tree::{Mark, Row, Token, Word};
+use own_tree::{Mark, Row, Span, Token, Word};
 use sqlite_items::Items;
 use std::alloc::Global;
 
@@ -60,9 +61,16 @@ fn bind_of(alloc: Global, rest: &[Token], depth: u32) -> Result<(Pattern, u32, &
     Ok((Pattern::BindCase(span, pattern), height, last))
 }
 
+/// A case with its parts.
+fn on_case(span: Span, name: Name, parts: Row<Pattern>) -> Pattern
+    ensures { pattern_view result ≡ source.on_case span name (pats_of (map pattern_view parts)) }
+{
+    Pattern::Case(span, name, Items::from_vec(parts.into_vec()))
+}
+
 /// The parts of a case, after its `(`. The case begins at `from`.
 #[cycle(patterns)]
-#[tactic(auto, unfolding(own_grammar::specs::Reading::parts_with), using(crate::proofs::PatternList::case_nest))]
+#[tactic(auto, unfolding(own_grammar::specs::Reading::parts_with))]
 fn parts_of<'a>(
     alloc: Global,
     rest: &'a [Token],
@@ -84,8 +92,7 @@ fn parts_of<'a>(
         return Err(ReadError::Syntax(more.len()));
     }
     let span = till(here(from), here(more));
-    let parts = Items::from_vec(parts.into_vec());
-    Ok((Pattern::Case(span, name, parts), height + 1, after(more)))
+    Ok((on_case(span, name, parts), height + 1, after(more)))
 }
 
 /// A case, the dot of which is the next token.
