@@ -3,3 +3,4 @@ pub mod Fields
 pub mod Names
 pub mod LetPatternList
 pub mod PatternList
+pub mod Tails

@@ -1,6 +1,7 @@
 //! The parser of expressions, patterns, statements and blocks.
 #![tactic(auto)]
 
+mod block_stub;
 mod fault;
 mod let_patterns;
 mod lines;
@@ -9,3 +10,4 @@ mod nodes;
 mod operators;
 mod paths;
 mod patterns;
+pub mod tokens;
