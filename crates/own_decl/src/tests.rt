@@ -52,11 +52,11 @@ const ROWS: [(&str, &str); 53] = [
     ),
     (
         "struct F: ~Copyable {\n let fd\n : Int\n init(_ n: Int, to m: inout Int) { fd = n; m = n }\n}\nmain()",
-        "struct F: ~Copyable { let fd: Int; init(_ n: Int, to m: inout Int) {2}; }; main 89 of 37",
+        "struct F: ~Copyable { let fd: Int; init(_ n: Int, to m: inout Int) {2}; }; main 90 of 36",
     ),
     (
         "struct F { deinit { f() }\n consuming func c() -> F { return self }; borrowing func b() { }\n func a() { }\n}\nmain()",
-        "struct F { deinit {1}; consuming func c() -> F {1}; borrowing func b() {0}; func a() {0}; }; main 108 of 40",
+        "struct F { deinit {1}; consuming func c() -> F {1}; borrowing func b() {0}; func a() {0}; }; main 107 of 38",
     ),
     ("struct P { let x: Int let y: Int }\nmain()", "syntax 7"),
     ("struct P { let x Int }\nmain()", "syntax 5"),
@@ -69,7 +69,7 @@ const ROWS: [(&str, &str); 53] = [
     // Enums and their members.
     (
         "enum E: ~Copyable { case a\n, b(Int, File); case c\n deinit { }\n mutating func m() { } }\nmain()",
-        "enum E: ~Copyable { case a, b(Int, File); case c; deinit {0}; mutating func m() {0}; }; main 88 of 35",
+        "enum E: ~Copyable { case a, b(Int, File); case c; deinit {0}; mutating func m() {0}; }; main 87 of 32",
     ),
     ("enum E { case a() }\nmain()", "syntax 6"),
     ("enum E { case a, }\nmain()", "syntax 6"),
@@ -81,7 +81,7 @@ const ROWS: [(&str, &str); 53] = [
     // Functions, their parameters and results.
     (
         "func f()\n-> Int { let x = 1; return x }\nmain()",
-        "func f() -> Int {2}; main 40 of 17",
+        "func f() -> Int {2}; main 40 of 18",
     ),
     (
         "func f() -> ( ) { }\nmain()",
@@ -94,7 +94,7 @@ const ROWS: [(&str, &str); 53] = [
     ),
     (
         "func f(g: (Int, inout File) -> Int, _ h: () -> ()) { }\nmain()",
-        "func f(g: (Int, inout File) -> Int, _ h: () -> ()) {0}; main 55 of 29",
+        "func f(g: (Int, inout File) -> Int, _ h: () -> ()) {0}; main 55 of 28",
     ),
     ("func f(g: ((Int) -> Int) -> Int) { }\nmain()", "syntax 6"),
     ("func f(g: (x: Int) -> Int) { }\nmain()", "syntax 7"),
@@ -136,7 +136,7 @@ fn put_often(out: &mut String, piece: &str, times: u32) -> Result<(), AllocError
 #[test]
 fn nesting_is_that_of_bodies(rt: HostRuntime) -> Result<(), Fail> {
     for (times, inner, want) in [
-        (49, "return", "struct P { func f() {1}; }; main 624 of 209"),
+        (49, "return", "struct P { func f() {1}; }; main 474 of 210"),
         (49, "x", "depth 155"),
     ] {
         let mut text = String::new(rt.alloc());
