@@ -836,7 +836,7 @@ module _ (most : ℕ) (R : Reader) (opened : (g : Goal) (d : ℕ) (ts : Toks) �
       }
 
   abbrev GoodH : When → Type 0
-  GoodH h = (d : ℕ) (from to : Toks) → SpellsH h from to → kind_at to ≡ Some (kind.Mark mark.Colon) → d + nest_when h ≤ most → head_with R d from ≡ Ok (h, to)
+  GoodH h = (d : ℕ) (from to : Toks) → SpellsH h from to → kind_at to ≡ Some (kind.Mark mark.Colon) → d + nest_when h ≤ most → head_with most R d from ≡ Ok (h, to)
 
   many_is : (ps : Pats) (d : ℕ) (from to : Toks) → SpellsPats ps from to → kind_at to ≡ Some (kind.Mark mark.Colon) → where_with R d (pats_in ps) to ≡ Ok (case_of ps, to)
   unfolding where_with pats_in
@@ -847,16 +847,16 @@ module _ (most : ℕ) (R : Reader) (opened : (g : Goal) (d : ℕ) (ts : Toks) �
   head_case : (ps : Pats) → GoodH (case_of ps)
   unfolding head_with
   head_case ps d from to (k, sps) colon fit =
-      rw (at_word word.Case from _ k, pats_are ps (after from) to sps (at_mark mark.OpenParen to _ colon) (at_mark mark.Comma to _ colon)) (many_is ps d (after from) to sps colon)
+      rw (at_word word.Case from _ k, pats_are most ps d (after from) to sps (at_mark mark.OpenParen to _ colon) (at_mark mark.Comma to _ colon) fit) (many_is ps d (after from) to sps colon)
 
   head_where : (p : Pat) (e : Exp) → Good e → GoodH (case_where p e)
   unfolding head_with where_with pats_in
   head_where p e good d from to (k, mid, sp, w, spe) colon fit =
       rw (
         at_word word.Case from _ k,
-        pats_are (pat p no_pats) (after from) mid sp (at_mark mark.OpenParen mid _ w) (at_mark mark.Comma mid _ w),
+        pats_are most (pat p no_pats) d (after from) mid sp (at_mark mark.OpenParen mid _ w) (at_mark mark.Comma mid _ w) (omega (arith, fit)),
         at_word word.Where mid _ w,
-        expression_goal e Plain d (after mid) to good spe (stops_at 6 Plain to _ (omega arith) colon refl) fit,
+        expression_goal e Plain d (after mid) to good spe (stops_at 6 Plain to _ (omega arith) colon refl) (omega (arith, fit)),
       ) refl
 
   head_default : GoodH default
@@ -875,7 +875,7 @@ module _ (most : ℕ) (R : Reader) (opened : (g : Goal) (d : ℕ) (ts : Toks) �
   clauses_begin (clause s h ss cs) from to (colon, next, sph, k, sps, is_s, spc) = (head_begins h from colon sph).0
 
   clause_is : (s : Span) (h : When) (ss : Stms) (d : ℕ) (from colon next : Toks) → GoodH h → GoodN ss → SpellsH h from colon → kind_at colon ≡ Some (kind.Mark mark.Colon) → SpellsN ss (after colon) next → ends_clause next ≡ true
-      → s ≡ till (here from) (stms_end (here colon) ss) → d + nest_when h ≤ most → d + nest_stms ss ≤ most → clause_with R d from ≡ Ok ((s, h, ss), next)
+      → s ≡ till (here from) (stms_end (here colon) ss) → d + nest_when h ≤ most → d + nest_stms ss ≤ most → clause_with most R d from ≡ Ok ((s, h, ss), next)
   unfolding clause_with
   clause_is s h ss d from colon next goodh goods sph k sps end is_s fith fits =
       let rest = goods [] d (after colon) next sps end fits in

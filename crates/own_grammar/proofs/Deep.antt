@@ -27,8 +27,8 @@ use Rattle.own_grammar.proofs.PatternsRead.{pats_sound}
 use Rattle.own_grammar.proofs.Sound.{Sound, left_of, sound_primary, sound_level, sound_expression, sound_closure, sound_argument, sound_all_arguments, sound_separated, sound_head, sound_clause, sound_at, nest_positive, path_in_is, never}
 use Rattle.own_grammar.proofs.Steps.{bind_err, bind_deep, syn, some_syn, lim, no_ok}
 use Rattle.own_grammar.proofs.Paths.{path_from_no_depth, path_no_depth, typed_no_depth}
-use Rattle.own_grammar.proofs.PatternsRead.{pats_shallow}
-use Rattle.own_grammar.specs.Partial.{PExp, gone, p_parenthesized, p_consumed, p_prefix, p_binary, p_first, p_second, p_member, p_call, p_unclosed, p_call_closing, p_call_closure, PGiven, p_value, p_address, p_closing, PArgs, no_more, p_arg, p_then, PClo, p_opened, p_closure, PStm, gone_stm, p_let, p_assign, p_ignore, p_if, p_if_then, p_if_else, p_else_if, p_while, p_while_do, p_repeat, p_repeat_while, p_from, p_to, p_for, p_subject, p_switch, p_return, p_evaluate, PStms, p_stm, p_next, PClauses, p_where, p_clause, p_next_clause, PBlk, gone_block, p_block, level_p, nest_p, nest_pg, nest_pa, nest_pk, nest_ps, nest_pl, nest_pc, nest_pb, PartE, PartG, PartA, PartK, PartS, PartL, PartC, PartB}
+use Rattle.own_grammar.proofs.PatternsRead.{pats_deep}
+use Rattle.own_grammar.specs.Partial.{PExp, gone, p_parenthesized, p_consumed, p_prefix, p_binary, p_first, p_second, p_member, p_call, p_unclosed, p_call_closing, p_call_closure, PGiven, p_value, p_address, p_closing, PArgs, no_more, p_arg, p_then, PClo, p_opened, p_closure, PStm, gone_stm, p_let, p_assign, p_ignore, p_if, p_if_then, p_if_else, p_else_if, p_while, p_while_do, p_repeat, p_repeat_while, p_from, p_to, p_for, p_subject, p_switch, p_return, p_evaluate, PStms, p_stm, p_next, PClauses, p_patterns, p_where, p_clause, p_next_clause, PBlk, gone_block, p_block, level_p, nest_p, nest_pg, nest_pa, nest_pk, nest_ps, nest_pl, nest_pc, nest_pb, PartE, PartG, PartA, PartK, PartS, PartL, PartC, PartB}
 
 module _ (most : ℕ) where
   abbrev DeepE : ℕ → Bool → Context → ℕ → Toks → ℕ → Type 0
@@ -546,19 +546,19 @@ module _ (most : ℕ) where
     ]
     deep_where p (pat q ps) d ts us n kw sp e = absurd (no_ok _ n e)
 
-    deep_head : (d : ℕ) (ts : Toks) (n : ℕ) → head_with k d ts ≡ Err (Depth n) → DeepC d ts n
+    deep_head : (d : ℕ) (ts : Toks) (n : ℕ) → head_with most k d ts ≡ Err (Depth n) → DeepC d ts n
     unfolding head_with
-    deep_head d ts n e = elim (chosen (is_word word.Case ts) (read_pattern (patterns_on []) (after ts) >>= λ ps. where_with k d ps.0 ps.1) (cond (is_word word.Default ts) (done (default, after ts)) (syntax_at ts)) _ e) [
-      | inl y ↦ elim (bind_err (read_pattern (patterns_on []) (after ts)) (λ ps. where_with k d ps.0 ps.1) _ y.1) [
-        | inl z ↦ absurd (pats_shallow (after ts) n z)
-        | inr z ↦ (let s = pats_sound (after ts) z.0 z.1 in deep_where s.0 s.1 d ts z.0.1 n (word_kind word.Case ts y.0) s.3 (rw s.2 at z.2))
+    deep_head d ts n e = elim (chosen (is_word word.Case ts) (read_pattern most (patterns_on []) d (after ts) >>= λ ps. where_with k d ps.0 ps.1) (cond (is_word word.Default ts) (done (default, after ts)) (syntax_at ts)) _ e) [
+      | inl y ↦ elim (bind_err (read_pattern most (patterns_on []) d (after ts)) (λ ps. where_with k d ps.0 ps.1) _ y.1) [
+        | inl z ↦ (let r = pats_deep most d (after ts) n z in (p_patterns r.0, r.1, r.2, (word_kind word.Case ts y.0, r.3), r.4))
+        | inr z ↦ (let s = pats_sound most d (after ts) z.0 z.1 in deep_where s.0 s.1 d ts z.0.1 n (word_kind word.Case ts y.0) s.3 (rw s.2 at z.2))
       ]
       | inr y ↦ absurd (let q = syn (is_word word.Default ts) (done (default, after ts)) _ n y.1 in no_ok _ n q.1)
     ]
 
-    deep_clause : (d : ℕ) (ts : Toks) (n : ℕ) → clause_with k d ts ≡ Err (Depth n) → DeepC d ts n
+    deep_clause : (d : ℕ) (ts : Toks) (n : ℕ) → clause_with most k d ts ≡ Err (Depth n) → DeepC d ts n
     unfolding clause_with
-    deep_clause d ts n e = elim (bind_err (head_with k d ts) (λ h. cond (is_mark mark.Colon h.1) (k (clause_on []) d (after h.1) >>= λ ss. done ((till (here ts) (stms_end (here h.1) (stms_of ss.0)), h.0, stms_of ss.0), ss.1)) (syntax_at h.1)) _ e) [
+    deep_clause d ts n e = elim (bind_err (head_with most k d ts) (λ h. cond (is_mark mark.Colon h.1) (k (clause_on []) d (after h.1) >>= λ ss. done ((till (here ts) (stms_end (here h.1) (stms_of ss.0)), h.0, stms_of ss.0), ss.1)) (syntax_at h.1)) _ e) [
       | inl y ↦ deep_head d ts n y
       | inr y ↦ (
           let p = sound_head most k snd d ts y.0 y.1 in
@@ -567,11 +567,11 @@ module _ (most : ℕ) where
           (p_clause y.0.0 r.0, r.1, r.2, (y.0.1, p.0, mark_kind mark.Colon y.0.1 q.0, r.3), omega (arith, r.4)))
     ]
 
-    deep_clauses : (xs : List Cla) (d : ℕ) (ts : Toks) (n : ℕ) → clauses_with k xs d ts ≡ Err (Depth n) → DeepC d ts n
+    deep_clauses : (xs : List Cla) (d : ℕ) (ts : Toks) (n : ℕ) → clauses_with most k xs d ts ≡ Err (Depth n) → DeepC d ts n
     unfolding clauses_with
     deep_clauses xs d ts n e = elim (chosen (is_mark mark.CloseBrace ts) _ _ _ e) [
       | inl y ↦ absurd (no_ok _ n y.1)
-      | inr y ↦ elim (bind_err (clause_with k d ts) (λ c. k (clauses_on (xs ++ c.0 ∷ [])) d c.1) _ y.1) [
+      | inr y ↦ elim (bind_err (clause_with most k d ts) (λ c. k (clauses_on (xs ++ c.0 ∷ [])) d c.1) _ y.1) [
         | inl z ↦ deep_clause d ts n z
         | inr z ↦ (let p = sound_clause most k snd d ts z.0 z.1 in let r = dp (clauses_on (xs ++ z.0.0 ∷ [])) d z.0.1 n z.2 in
             (p_next_clause z.0.0.1 z.0.0.2 r.0, r.1, r.2, (p.0, z.0.1, p.1, p.2, p.3, r.3), omega (arith, r.4)))

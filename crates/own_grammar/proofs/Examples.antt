@@ -140,6 +140,13 @@ levels =
     (tok (kind.Mark mark.OpenBrace) true true false ∷ tok (kind.Mark mark.OpenParen) true false false ∷ tok (kind.Number 1) true true false ∷ tok (kind.Mark mark.CloseParen) false true false ∷ tok (kind.Mark mark.CloseBrace) true true false ∷ [], 0) ∷
     -- { ((1)) }
     (tok (kind.Mark mark.OpenBrace) true true false ∷ tok (kind.Mark mark.OpenParen) true false false ∷ tok (kind.Mark mark.OpenParen) true false false ∷ tok (kind.Number 1) true true false ∷ tok (kind.Mark mark.CloseParen) false true false ∷ tok (kind.Mark mark.CloseParen) false true false ∷ tok (kind.Mark mark.CloseBrace) true true false ∷ [], 2004) ∷
+    -- a pattern in the parentheses of another is a node
+    -- { switch x { case .a(.b(_)): break } }
+    (tok (kind.Mark mark.OpenBrace) true true false ∷ tok (kind.Word word.Switch) true true false ∷ tok (kind.Name (codes "x")) true true false ∷ tok (kind.Mark mark.OpenBrace) true true false ∷ tok (kind.Word word.Case) true true false ∷ tok (kind.Mark mark.Dot) true false false ∷ tok (kind.Name (codes "a")) false false false ∷ tok (kind.Mark mark.OpenParen) false false false ∷ tok (kind.Mark mark.Dot) false false false ∷ tok (kind.Name (codes "b")) false false false ∷ tok (kind.Mark mark.OpenParen) false false false ∷ tok (kind.Mark mark.Underscore) true true false ∷ tok (kind.Mark mark.CloseParen) false true false ∷ tok (kind.Mark mark.CloseParen) false true false ∷ tok (kind.Mark mark.Colon) false true false ∷ tok (kind.Word word.Break) true true false ∷ tok (kind.Mark mark.CloseBrace) true true false ∷ tok (kind.Mark mark.CloseBrace) true true false ∷ [], 0) ∷
+    -- { switch x { case .a(_, .b(.c(_))): break } }
+    (tok (kind.Mark mark.OpenBrace) true true false ∷ tok (kind.Word word.Switch) true true false ∷ tok (kind.Name (codes "x")) true true false ∷ tok (kind.Mark mark.OpenBrace) true true false ∷ tok (kind.Word word.Case) true true false ∷ tok (kind.Mark mark.Dot) true false false ∷ tok (kind.Name (codes "a")) false false false ∷ tok (kind.Mark mark.OpenParen) false false false ∷ tok (kind.Mark mark.Underscore) true true false ∷ tok (kind.Mark mark.Comma) false true false ∷ tok (kind.Mark mark.Dot) true false false ∷ tok (kind.Name (codes "b")) false false false ∷ tok (kind.Mark mark.OpenParen) false false false ∷ tok (kind.Mark mark.Dot) false false false ∷ tok (kind.Name (codes "c")) false false false ∷ tok (kind.Mark mark.OpenParen) false false false ∷ tok (kind.Mark mark.Underscore) true true false ∷ tok (kind.Mark mark.CloseParen) false true false ∷ tok (kind.Mark mark.CloseParen) false true false ∷ tok (kind.Mark mark.CloseParen) false true false ∷ tok (kind.Mark mark.Colon) false true false ∷ tok (kind.Word word.Break) true true false ∷ tok (kind.Mark mark.CloseBrace) true true false ∷ tok (kind.Mark mark.CloseBrace) true true false ∷ [], 2008) ∷
+    -- { switch x { case let .a(.b(.c(y))): break } }
+    (tok (kind.Mark mark.OpenBrace) true true false ∷ tok (kind.Word word.Switch) true true false ∷ tok (kind.Name (codes "x")) true true false ∷ tok (kind.Mark mark.OpenBrace) true true false ∷ tok (kind.Word word.Case) true true false ∷ tok (kind.Word word.Let) true true false ∷ tok (kind.Mark mark.Dot) true false false ∷ tok (kind.Name (codes "a")) false false false ∷ tok (kind.Mark mark.OpenParen) false false false ∷ tok (kind.Mark mark.Dot) false false false ∷ tok (kind.Name (codes "b")) false false false ∷ tok (kind.Mark mark.OpenParen) false false false ∷ tok (kind.Mark mark.Dot) false false false ∷ tok (kind.Name (codes "c")) false false false ∷ tok (kind.Mark mark.OpenParen) false false false ∷ tok (kind.Name (codes "y")) false false false ∷ tok (kind.Mark mark.CloseParen) false true false ∷ tok (kind.Mark mark.CloseParen) false true false ∷ tok (kind.Mark mark.CloseParen) false true false ∷ tok (kind.Mark mark.Colon) false true false ∷ tok (kind.Word word.Break) true true false ∷ tok (kind.Mark mark.CloseBrace) true true false ∷ tok (kind.Mark mark.CloseBrace) true true false ∷ [], 2008) ∷
     []
 
 levels_are : map (λ (row : Toks × ℕ). outcome (read 4 body 0 row.0)) levels ≡ map (λ (row : Toks × ℕ). row.1) levels

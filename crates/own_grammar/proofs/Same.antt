@@ -17,7 +17,7 @@ use Rattle.own_grammar.specs.Reading.{Fault, Goal, expression, operand, operator
 use Rattle.own_grammar.proofs.Facts.{mark_kind, word_kind, at_mark, closes_kind, unary_kind}
 use Rattle.own_tree.specs.declared.token.Word.{Word}
 use Rattle.own_grammar.proofs.Paths.{typed_sound}
-use Rattle.own_grammar.proofs.PatternsRead.{pats_sound}
+use Rattle.own_grammar.proofs.PatternsRead.{pats_sound, pats_near}
 use Rattle.own_grammar.proofs.Lengths.{after_short, after_le, typed_le, labels_le, sep_le, pats_short, head_le}
 use Rattle.own_grammar.proofs.Facts.{keyword_kind}
 use Rattle.own_grammar.proofs.Shorter.{operator_short, short_e, short_g, short_a, short_k, short_s, short_n, short_h, short_b}
@@ -238,17 +238,17 @@ module _ (loose : Type 0) (most most' : ℕ) (limits : (most ≡ most') ⊎ (loo
   near_where (p ∷ []) d ts lt = near_cond loose (is_word word.Where ts) _ _ _ _ (λ y. near_bind loose _ _ _ _ (agree (expression Plain) d (after ts) (let a = after_le ts in omega arith)) (λ x r. same refl)) (λ y. same refl)
   near_where (p ∷ q ∷ ps) d ts lt = same refl
 
-  near_head : (d : ℕ) (ts : Toks) → length ts ≤ n → Alike (head_with k d ts) (head_with k' d ts)
+  near_head : (d : ℕ) (ts : Toks) → length ts ≤ n → Alike (head_with most k d ts) (head_with most' k' d ts)
   unfolding head_with
-  near_head d ts le = near_cond loose (is_word word.Case ts) _ _ _ _ (λ y. near_bind loose (read_pattern (patterns_on []) (after ts)) (read_pattern (patterns_on []) (after ts)) _ _ (same refl)
-      (λ x r. near_where x.0 d x.1 (let p = pats_sound (after ts) x r in let a = pats_short (pat p.0 p.1) (after ts) x.1 p.3 in let b = after_short ts _ (word_kind word.Case ts y) in omega arith))) (λ y. same refl)
+  near_head d ts le = near_cond loose (is_word word.Case ts) _ _ _ _ (λ y. near_bind loose (read_pattern most (patterns_on []) d (after ts)) (read_pattern most' (patterns_on []) d (after ts)) _ _ (pats_near loose most most' limits d (after ts))
+      (λ x r. near_where x.0 d x.1 (let p = pats_sound most d (after ts) x r in let a = pats_short (pat p.0 p.1) (after ts) x.1 p.3 in let b = after_short ts _ (word_kind word.Case ts y) in omega arith))) (λ y. same refl)
 
-  near_clause : (d : ℕ) (ts : Toks) → length ts ≤ n → Alike (clause_with k d ts) (clause_with k' d ts)
+  near_clause : (d : ℕ) (ts : Toks) → length ts ≤ n → Alike (clause_with most k d ts) (clause_with most' k' d ts)
   unfolding clause_with
   near_clause d ts le = near_bind loose _ _ _ _ (near_head d ts le) (λ x r. near_cond loose (is_mark mark.Colon x.1) _ _ _ _
       (λ y. near_bind loose _ _ _ _ (agree (clause_on []) d (after x.1) (let p = sound_head most k snd d ts x r in let a = short_h x.0 ts x.1 p.0 in let b = after_le x.1 in omega arith)) (λ x r. same refl)) (λ y. same refl))
 
-  near_clauses : (xs : List Cla) (d : ℕ) (ts : Toks) → length ts ≤ n → Alike (clauses_with k xs d ts) (clauses_with k' xs d ts)
+  near_clauses : (xs : List Cla) (d : ℕ) (ts : Toks) → length ts ≤ n → Alike (clauses_with most k xs d ts) (clauses_with most' k' xs d ts)
   unfolding clauses_with
   near_clauses xs d ts le = near_cond loose (is_mark mark.CloseBrace ts) _ _ _ _ (λ y. same refl) (λ y. near_bind loose _ _ _ _ (near_clause d ts le)
       (λ x r. agree (clauses_on (xs ++ x.0 ∷ [])) d x.1 (let p = sound_clause most k snd d ts x r in let a = short_h x.0.1 ts p.0 p.1 in let b = after_le p.0 in let c = short_n x.0.2 (after p.0) x.1 p.3 in omega arith)))

@@ -18,7 +18,7 @@ use Rattle.own_tree.specs.View.{Arg, Cla, args_of, stms_of, clauses_of, pats_of}
 use Rattle.own_grammar.specs.declared.Context.{Context}
 use Rattle.own_grammar.specs.declared.Context.TheVariants.{Plain, Condition, Inside}
 use Rattle.own_grammar.specs.Tests.{Toks, after, here, till, kind_at, is_mark, is_word, name_at, number_at, text_at, truth_at, root_at, operator_at, negative_at, unary_at, opens, closes, label_at, binder_at, keyword_at, range_at, assign_at, assigns, is_bare, closure_head}
-use Rattle.own_grammar.specs.Nesting.{exp_span, clo_span, level, chains, level_of, is_post, is_path, is_call, nest, nest_given, nest_args, nest_clo, nest_stm, nest_stms, nest_when, nest_clauses, nest_blk, blk_span, stm_span, stms_end, typed_end, is_if, is_return}
+use Rattle.own_grammar.specs.Nesting.{nest_pats, exp_span, clo_span, level, chains, level_of, is_post, is_path, is_call, nest, nest_given, nest_args, nest_clo, nest_stm, nest_stms, nest_when, nest_clauses, nest_blk, blk_span, stm_span, stms_end, typed_end, is_if, is_return}
 use Rattle.own_grammar.specs.Spells.{IsLeft, Labels, SpellsPath, SpellsE, SpellsG, SpellsA, SpellsK, SpellsS, SpellsL, SpellsN, SpellsH, SpellsC, SpellsB, SpellsPats, Sep, Typed, Ignored}
 use Rattle.own_grammar.specs.Reading.{Syntax, ◌>>=◌, syntax_at, depth_at, on_some, Goal, expression, operand, operators_on, calls_on, arguments_on, Out, Reader, path_from, path_with, parenthesized_with, implicit_with, literal_in, literal_at, primary_with, post_with, prefix_with, consume_with, pre_with, level_with, next_with, operator_with, operators_with, branches_with, choice_with, expression_with, closure_with, address_with, given_with, argument_with, arguments_with, all_arguments_with, called_with, call_with, closing_with, member_with, calls_with, step, statement, statements_on, clause_on, clauses_on, body, typed_with, bound, bound_with, let_with, ignore_with, discard_with, else_with, if_with, while_with, repeat_with, upper_with, lower_with, for_with, switch_with, return_with, path_in, assign_with, evaluate_with, simple_with, statement_with, sep_at, separated_with, statements_with, ends_clause, clause_statements_with, where_with, head_with, clause_with, clauses_with, block_with, patterns_on, read_pattern, read_at, read}
 use Rattle.own_grammar.proofs.Facts.{number_kind, text_kind, truth_kind, root_kind, mark_kind, word_kind, at_mark, closes_kind, unary_kind, negative_kind}
@@ -677,24 +677,24 @@ module _ (most : ℕ) where
     abbrev Headed : When → ℕ → Toks → Toks → Type 0
     Headed h d from to = SpellsH h from to × (d ≤ most → d + nest_when h ≤ most)
 
-    sound_where : (p : Pat) (ps : Pats) (d : ℕ) (ts us : Toks) (x : When × Toks) → kind_at ts ≡ Some (kind.Word word.Case) → SpellsPats (pat p ps) (after ts) us → where_with k d (pats_in (pat p ps)) us ≡ Ok x → Headed x.0 d ts x.1
+    sound_where : (p : Pat) (ps : Pats) (d : ℕ) (ts us : Toks) (x : When × Toks) → kind_at ts ≡ Some (kind.Word word.Case) → SpellsPats (pat p ps) (after ts) us → (d ≤ most → d + nest_pats (pat p ps) ≤ most) → where_with k d (pats_in (pat p ps)) us ≡ Ok x → Headed x.0 d ts x.1
     unfolding where_with pats_in
-    sound_where p no_pats d ts us x kw sp e = elim (chosen (is_word word.Where us) _ _ _ e) [
-      | inr y ↦ rw (← ok_is (case_of (pat p no_pats), us) x y.1) ((kw, sp), λ le. omega (arith, le))
+    sound_where p no_pats d ts us x kw sp fit e = elim (chosen (is_word word.Where us) _ _ _ e) [
+      | inr y ↦ rw (← ok_is (case_of (pat p no_pats), us) x y.1) ((kw, sp), fit)
       | inl y ↦ (
           let c = bind_ok (k (expression Plain) d (after us)) (λ e. done (case_where p e.0, e.1)) x y.1 in
           let q = snd (expression Plain) d (after us) c.0 c.1 in
-          rw (← ok_is (case_where p c.0.0, c.0.1) x c.2) ((kw, us, sp, word_kind word.Where us y.0, q.0), λ le. q.1))
+          rw (← ok_is (case_where p c.0.0, c.0.1) x c.2) ((kw, us, sp, word_kind word.Where us y.0, q.0), λ le. let own = fit le in omega (arith, own, q.1)))
     ]
-    sound_where p (pat q ps) d ts us x kw sp e = rw (← ok_is (case_of (pat p (pats_of (pats_in (pat q ps)))), us) x e, pats_list ps) ((kw, sp), λ le. omega (arith, le))
+    sound_where p (pat q ps) d ts us x kw sp fit e = rw (← ok_is (case_of (pat p (pats_of (pats_in (pat q ps)))), us) x e, pats_list ps) ((kw, sp), fit)
 
-    pub sound_head : (d : ℕ) (ts : Toks) (x : When × Toks) → head_with k d ts ≡ Ok x → Headed x.0 d ts x.1
+    pub sound_head : (d : ℕ) (ts : Toks) (x : When × Toks) → head_with most k d ts ≡ Ok x → Headed x.0 d ts x.1
     unfolding head_with
-    sound_head d ts x e = elim (chosen (is_word word.Case ts) (read_pattern (patterns_on []) (after ts) >>= λ ps. where_with k d ps.0 ps.1) (cond (is_word word.Default ts) (done (default, after ts)) (syntax_at ts)) _ e) [
+    sound_head d ts x e = elim (chosen (is_word word.Case ts) (read_pattern most (patterns_on []) d (after ts) >>= λ ps. where_with k d ps.0 ps.1) (cond (is_word word.Default ts) (done (default, after ts)) (syntax_at ts)) _ e) [
       | inl y ↦ (
-          let c = bind_ok (read_pattern (patterns_on []) (after ts)) (λ ps. where_with k d ps.0 ps.1) x y.1 in
-          let s = pats_sound (after ts) c.0 c.1 in
-          sound_where s.0 s.1 d ts c.0.1 x (word_kind word.Case ts y.0) s.3 (rw s.2 at c.2))
+          let c = bind_ok (read_pattern most (patterns_on []) d (after ts)) (λ ps. where_with k d ps.0 ps.1) x y.1 in
+          let s = pats_sound most d (after ts) c.0 c.1 in
+          sound_where s.0 s.1 d ts c.0.1 x (word_kind word.Case ts y.0) s.3 s.4 (rw s.2 at c.2))
       | inr y ↦ (
           let q = kept (is_word word.Default ts) (done (default, after ts)) _ x y.1 in
           rw (← ok_is (default, after ts) x q.1) ((word_kind word.Default ts q.0, refl), λ le. omega (arith, le)))
@@ -703,10 +703,10 @@ module _ (most : ℕ) where
     abbrev Claused : Cla → ℕ → Toks → Toks → Type 0
     Claused c d from to = (colon : Toks) × SpellsH c.1 from colon × (kind_at colon ≡ Some (kind.Mark mark.Colon)) × SpellsN c.2 (after colon) to × (c.0 ≡ till (here from) (stms_end (here colon) c.2)) × (d ≤ most → d + nest_when c.1 ≤ most) × (d + nest_stms c.2 ≤ most)
 
-    pub sound_clause : (d : ℕ) (ts : Toks) (x : Cla × Toks) → clause_with k d ts ≡ Ok x → Claused x.0 d ts x.1
+    pub sound_clause : (d : ℕ) (ts : Toks) (x : Cla × Toks) → clause_with most k d ts ≡ Ok x → Claused x.0 d ts x.1
     unfolding clause_with
     sound_clause d ts x e =
-        let h = bind_ok (head_with k d ts) (λ h. cond (is_mark mark.Colon h.1) (k (clause_on []) d (after h.1) >>= λ ss. done ((till (here ts) (stms_end (here h.1) (stms_of ss.0)), h.0, stms_of ss.0), ss.1)) (syntax_at h.1)) x e in
+        let h = bind_ok (head_with most k d ts) (λ h. cond (is_mark mark.Colon h.1) (k (clause_on []) d (after h.1) >>= λ ss. done ((till (here ts) (stms_end (here h.1) (stms_of ss.0)), h.0, stms_of ss.0), ss.1)) (syntax_at h.1)) x e in
         let p = sound_head d ts h.0 h.1 in
         let q = kept (is_mark mark.Colon h.0.1) (k (clause_on []) d (after h.0.1) >>= λ ss. done ((till (here ts) (stms_end (here h.0.1) (stms_of ss.0)), h.0.0, stms_of ss.0), ss.1)) _ x h.2 in
         let s = bind_ok (k (clause_on []) d (after h.0.1)) (λ ss. done ((till (here ts) (stms_end (here h.0.1) (stms_of ss.0)), h.0.0, stms_of ss.0), ss.1)) x q.1 in
@@ -714,12 +714,12 @@ module _ (most : ℕ) where
         let same : stms_of s.0.0 ≡ stm r.0 r.1 = stms_same s.0.0 (stm r.0 r.1) r.2 in
         rw (← ok_is ((till (here ts) (stms_end (here h.0.1) (stms_of s.0.0)), h.0.0, stms_of s.0.0), s.0.1) x s.2, same) (h.0.1, p.0, mark_kind mark.Colon h.0.1 q.0, r.3, refl, p.1, r.4)
 
-    sound_clauses : (xs : List Cla) (d : ℕ) (ts : Toks) (x : List Cla × Toks) → clauses_with k xs d ts ≡ Ok x → Spelled (clauses_on xs) d x.0 ts x.1
+    sound_clauses : (xs : List Cla) (d : ℕ) (ts : Toks) (x : List Cla × Toks) → clauses_with most k xs d ts ≡ Ok x → Spelled (clauses_on xs) d x.0 ts x.1
     unfolding clauses_with clauses_in
     sound_clauses xs d ts x e le = elim (chosen (is_mark mark.CloseBrace ts) _ _ _ e) [
       | inl y ↦ rw (← ok_is (xs, ts) x y.1) (no_clauses, sym (append-nil xs), (mark_kind mark.CloseBrace ts y.0, refl), omega (arith, le))
       | inr y ↦ (
-          let c = bind_ok (clause_with k d ts) (λ c. k (clauses_on (xs ++ c.0 ∷ [])) d c.1) x y.1 in
+          let c = bind_ok (clause_with most k d ts) (λ c. k (clauses_on (xs ++ c.0 ∷ [])) d c.1) x y.1 in
           let p = sound_clause d ts c.0 c.1 in let low = p.5 le in
           let r = snd (clauses_on (xs ++ c.0.0 ∷ [])) d c.0.1 x c.2 le in
           (clause c.0.0.0 c.0.0.1 c.0.0.2 r.0, r.1 ∙ append_assoc xs (c.0.0 ∷ []) (clauses_in r.0), (p.0, c.0.1, p.1, p.2, p.3, p.4, r.2), omega (arith, low, p.6, r.3)))

@@ -6,7 +6,7 @@ use Rattle.own_tree.specs.declared.tree.Root.{Root}
 use Rattle.own_tree.specs.declared.tree.Root.TheVariants.{Named, SelfWord}
 use Rattle.own_tree.specs.declared.tree.BinaryOperator.{BinaryOperator}
 use Rattle.own_tree.specs.declared.tree.BinaryOperator.TheVariants as operator
-use Rattle.own_tree.specs.Source.{LetPat, let_any, let_bind, let_case, let_number, let_truth, Pat, any, bind, bind_case, on_case, on_number, on_truth, Exp, number, text, truth, path, implicit_member, parenthesized, consumed, prefix, binary, choice, member, call, call_closing, call_closure, Given, value, address, closing, Args, no_args, arg, Clo, closure, Stm, let_in, declare, assign, ignore, discard_self, if_then, if_else, else_if, loop_while, loop_repeat, loop_for, switch, leave, go_on, return_none, return_value, evaluate, Stms, no_stms, stm, When, case_of, case_where, default, Clauses, no_clauses, clause, Blk, block}
+use Rattle.own_tree.specs.Source.{LetPat, let_any, let_bind, let_case, let_number, let_truth, LetPats, no_let_pats, let_pat, Pat, any, bind, bind_case, on_case, on_number, on_truth, Pats, no_pats, pat, Exp, number, text, truth, path, implicit_member, parenthesized, consumed, prefix, binary, choice, member, call, call_closing, call_closure, Given, value, address, closing, Args, no_args, arg, Clo, closure, Stm, let_in, declare, assign, ignore, discard_self, if_then, if_else, else_if, loop_while, loop_repeat, loop_for, switch, leave, go_on, return_none, return_value, evaluate, Stms, no_stms, stm, When, case_of, case_where, default, Clauses, no_clauses, clause, Blk, block}
 
 -- ---- spans
 
@@ -225,7 +225,35 @@ is_let_case (let_number s negative n) = false
 is_let_case (let_truth s b) = false
 
 -- ---- nesting: blocks, statements and expressions are nodes, a path is one node, an expression statement and its
--- expression are two. A clause and a pattern are none.
+-- expression are two. A clause is none, nor is the pattern of a clause, but a pattern in the parentheses of another is.
+
+-- how many patterns stand in one another below a pattern
+abbrev mutual
+  pub nest_let_pat : LetPat → ℕ
+  nest_let_pat (let_any s) = 0
+  nest_let_pat (let_bind n) = 0
+  nest_let_pat (let_case s n no_let_pats) = 0
+  nest_let_pat (let_case s n (let_pat p ps)) = suc (nest_let_pats (let_pat p ps))
+  nest_let_pat (let_number s negative n) = 0
+  nest_let_pat (let_truth s b) = 0
+
+  pub nest_let_pats : LetPats → ℕ
+  nest_let_pats no_let_pats = 0
+  nest_let_pats (let_pat p ps) = max (nest_let_pat p) (nest_let_pats ps)
+
+abbrev mutual
+  pub nest_pat : Pat → ℕ
+  nest_pat (any s) = 0
+  nest_pat (bind s n) = 0
+  nest_pat (bind_case s p) = nest_let_pat p
+  nest_pat (on_case s n no_pats) = 0
+  nest_pat (on_case s n (pat p ps)) = suc (nest_pats (pat p ps))
+  nest_pat (on_number s negative n) = 0
+  nest_pat (on_truth s b) = 0
+
+  pub nest_pats : Pats → ℕ
+  nest_pats no_pats = 0
+  nest_pats (pat p ps) = max (nest_pat p) (nest_pats ps)
 
 abbrev mutual
   pub nest : Exp → ℕ
@@ -280,8 +308,8 @@ abbrev mutual
   nest_stms (stm s ss) = max (nest_stm s) (nest_stms ss)
 
   pub nest_when : When → ℕ
-  nest_when (case_of ps) = 0
-  nest_when (case_where p e) = nest e
+  nest_when (case_of ps) = nest_pats ps
+  nest_when (case_where p e) = max (nest_pat p) (nest e)
   nest_when default = 0
 
   pub nest_clauses : Clauses → ℕ

@@ -12,12 +12,35 @@ use Rattle.own_tree.specs.declared.tree.PrefixOperator.{PrefixOperator}
 use Rattle.own_tree.specs.declared.tree.BinaryOperator.{BinaryOperator}
 use Rattle.own_tree.specs.declared.tree.AssignOperator.{AssignOperator}
 use Rattle.own_tree.specs.declared.tree.RangeOperator.{RangeOperator}
-use Rattle.own_tree.specs.Source.{Pat, Exp, Given, Args, Stm, Stms, When, Blk}
+use Rattle.own_tree.specs.Source.{LetPat, Pat, Exp, Given, Args, Stm, Stms, When, Blk}
 use Rattle.own_grammar.specs.declared.Context.{Context}
 use Rattle.own_grammar.specs.declared.Context.TheVariants.{Plain, Condition, Inside}
 use Rattle.own_grammar.specs.Tests.{Toks, after, kind_at, binder_at, keyword_at, operator_at, unary_at, range_at, assign_at, assigns, opens, closes, is_bare, closure_head}
-use Rattle.own_grammar.specs.Nesting.{level, chains, level_of, is_post, is_path, is_call, is_return, nest, nest_given, nest_args, nest_stm, nest_stms, nest_when, nest_blk}
-use Rattle.own_grammar.specs.Spells.{IsLeft, Sep, Labels, Typed, SpellsPath, SpellsPat, SpellsE, SpellsG, SpellsA, SpellsS, SpellsN, SpellsH, SpellsB}
+use Rattle.own_grammar.specs.Nesting.{level, chains, level_of, is_post, is_path, is_call, is_return, nest_let_pat, nest_pat, nest, nest_given, nest_args, nest_stm, nest_stms, nest_when, nest_blk}
+use Rattle.own_grammar.specs.Spells.{IsLeft, Sep, Labels, Typed, SpellsPath, SpellsCase, SpellsLetPat, SpellsPat, SpellsE, SpellsG, SpellsA, SpellsS, SpellsN, SpellsH, SpellsB}
+
+-- a pattern after `let`, broken off in its parentheses
+mutual
+  pub data PLetPat : Type 0 where
+    -- all its parts are missing
+    gone_let : PLetPat
+    p_let_case : Name → PLetPats → PLetPat
+
+  pub data PLetPats : Type 0 where
+    p_let_pat : PLetPat → PLetPats
+    p_next_let : LetPat → PLetPats → PLetPats
+
+-- a pattern, broken off in its parentheses
+mutual
+  pub data PPat : Type 0 where
+    -- all its parts are missing
+    gone_pattern : PPat
+    p_bind_case : PLetPat → PPat
+    p_case : Name → PPats → PPat
+
+  pub data PPats : Type 0 where
+    p_pattern : PPat → PPats
+    p_next_pattern : Pat → PPats → PPats
 
 mutual
   pub data PExp : Type 0 where
@@ -83,6 +106,7 @@ mutual
     p_next : Stm → PStms → PStms
 
   pub data PClauses : Type 0 where
+    p_patterns : PPats → PClauses
     p_where : Pat → PExp → PClauses
     p_clause : When → PStms → PClauses
     p_next_clause : When → Stms → PClauses → PClauses
@@ -105,7 +129,26 @@ level_p (p_unclosed f es) = 0
 level_p (p_call_closing f es p) = 0
 level_p (p_call_closure f p) = 0
 
--- the greatest number of nodes on a way down
+-- the greatest number of nodes on a way down, of patterns without the first one
+abbrev mutual
+  pub nest_plp : PLetPat → ℕ
+  nest_plp gone_let = 0
+  nest_plp (p_let_case n ps) = suc (nest_plps ps)
+
+  pub nest_plps : PLetPats → ℕ
+  nest_plps (p_let_pat p) = nest_plp p
+  nest_plps (p_next_let p ps) = max (nest_let_pat p) (nest_plps ps)
+
+abbrev mutual
+  pub nest_pp : PPat → ℕ
+  nest_pp gone_pattern = 0
+  nest_pp (p_bind_case p) = nest_plp p
+  nest_pp (p_case n ps) = suc (nest_pps ps)
+
+  pub nest_pps : PPats → ℕ
+  nest_pps (p_pattern p) = nest_pp p
+  nest_pps (p_next_pattern p ps) = max (nest_pat p) (nest_pps ps)
+
 abbrev mutual
   pub nest_p : PExp → ℕ
   nest_p gone = 1
@@ -161,13 +204,33 @@ abbrev mutual
   nest_pl (p_next s ps) = max (nest_stm s) (nest_pl ps)
 
   pub nest_pc : PClauses → ℕ
-  nest_pc (p_where q p) = nest_p p
+  nest_pc (p_patterns ps) = nest_pps ps
+  nest_pc (p_where q p) = max (nest_pat q) (nest_p p)
   nest_pc (p_clause h ps) = max (nest_when h) (nest_pl ps)
   nest_pc (p_next_clause h ss ps) = max (nest_when h) (max (nest_stms ss) (nest_pc ps))
 
   pub nest_pb : PBlk → ℕ
   nest_pb gone_block = 1
   nest_pb (p_block ps) = suc (nest_pl ps)
+
+abbrev mutual
+  pub PartLetPat : PLetPat → Toks → Toks → Type 0
+  PartLetPat gone_let from at = at ≡ from
+  PartLetPat (p_let_case n ps) from at = SpellsCase n from × (kind_at (after (after from)) ≡ Some (Mark mark.OpenParen)) × PartLetPats ps (after (after (after from))) at
+
+  pub PartLetPats : PLetPats → Toks → Toks → Type 0
+  PartLetPats (p_let_pat p) from at = PartLetPat p from at
+  PartLetPats (p_next_let p ps) from at = (mid : Toks) × SpellsLetPat p from mid × (kind_at mid ≡ Some (Mark mark.Comma)) × PartLetPats ps (after mid) at
+
+abbrev mutual
+  pub PartPat : PPat → Toks → Toks → Type 0
+  PartPat gone_pattern from at = at ≡ from
+  PartPat (p_bind_case p) from at = (kind_at from ≡ Some (Word word.Let)) × PartLetPat p (after from) at
+  PartPat (p_case n ps) from at = SpellsCase n from × (kind_at (after (after from)) ≡ Some (Mark mark.OpenParen)) × PartPats ps (after (after (after from))) at
+
+  pub PartPats : PPats → Toks → Toks → Type 0
+  PartPats (p_pattern p) from at = PartPat p from at
+  PartPats (p_next_pattern p ps) from at = (mid : Toks) × SpellsPat p from mid × (kind_at mid ≡ Some (Mark mark.Comma)) × PartPats ps (after mid) at
 
 abbrev mutual
   pub PartE : PExp → Bool → Context → Toks → Toks → Type 0
@@ -224,6 +287,7 @@ abbrev mutual
   PartL (p_next s ps) from at = (mid : Toks) × (next : Toks) × SpellsS s from mid × Sep (is_return s) mid next × PartL ps next at
 
   pub PartC : PClauses → Toks → Toks → Type 0
+  PartC (p_patterns ps) from at = (kind_at from ≡ Some (Word word.Case)) × PartPats ps (after from) at
   PartC (p_where q p) from at = (kind_at from ≡ Some (Word word.Case)) × (mid : Toks) × SpellsPat q (after from) mid × (kind_at mid ≡ Some (Word word.Where)) × PartE p false Plain (after mid) at
   PartC (p_clause h ps) from at = (colon : Toks) × SpellsH h from colon × (kind_at colon ≡ Some (Mark mark.Colon)) × PartL ps (after colon) at
   PartC (p_next_clause h ss ps) from at = (colon : Toks) × (next : Toks) × SpellsH h from colon × (kind_at colon ≡ Some (Mark mark.Colon)) × SpellsN ss (after colon) next × PartC ps next at

@@ -80,17 +80,20 @@ PatternOut pattern = Pat
 PatternOut (patterns_on ps) = List Pat
 
 abbrev pub PatternReader : Type 0
-PatternReader = (g : PatternGoal) → Toks → Read (PatternOut g)
+PatternReader = (g : PatternGoal) → ℕ → Toks → Read (PatternOut g)
 
--- one step, where `k` reads what stands after at least one token
+-- One step, where `k` reads what stands after at least one token. `d` nodes stand above what the pattern holds, and
+-- `most` are allowed.
 
 -- after the `(` of a case
-unfoldable pub let_parts_with : PatternReader → Toks → Name → Toks → Read LetPat
-let_parts_with k ts n us = k (let_patterns_on []) us >>= λ ps. if is_mark mark.CloseParen ps.1 then Ok (let_case (till (here ts) (here ps.1)) n (let_pats_of ps.0), after ps.1) else syntax_at ps.1
+unfoldable pub let_parts_with : ℕ → PatternReader → ℕ → Toks → Name → Toks → Read LetPat
+let_parts_with most k d ts n us = if nat_lt d most then
+    (k (let_patterns_on []) (d + 1) us >>= λ ps. if is_mark mark.CloseParen ps.1 then Ok (let_case (till (here ts) (here ps.1)) n (let_pats_of ps.0), after ps.1) else syntax_at ps.1)
+    else depth_at us
 
-unfoldable pub let_case_with : PatternReader → Toks → Read LetPat
-let_case_with k ts = on_some (name_at (after ts))
-    (λ n. if is_mark mark.OpenParen (after (after ts)) then let_parts_with k ts n (after (after (after ts))) else Ok (let_case (till (here ts) (here (after ts))) n no_let_pats, after (after ts)))
+unfoldable pub let_case_with : ℕ → PatternReader → ℕ → Toks → Read LetPat
+let_case_with most k d ts = on_some (name_at (after ts))
+    (λ n. if is_mark mark.OpenParen (after (after ts)) then let_parts_with most k d ts n (after (after (after ts))) else Ok (let_case (till (here ts) (here (after ts))) n no_let_pats, after (after ts)))
     (syntax_at (after ts))
 
 unfoldable pub let_literal_with : Toks → Read LetPat
@@ -99,26 +102,28 @@ let_literal_with ts =
     (on_some (number_at ts) (λ n. Ok (let_number (here ts) false n, after ts))
     (on_some (negative_at false ts) (λ n. Ok (let_number (till (here ts) (here (after ts))) true n, after (after ts))) (syntax_at ts)))
 
-unfoldable pub let_pattern_with : PatternReader → Toks → Read LetPat
-let_pattern_with k ts = if is_mark mark.Underscore ts then Ok (let_any (here ts), after ts)
-    else (if is_mark mark.Dot ts then let_case_with k ts
+unfoldable pub let_pattern_with : ℕ → PatternReader → ℕ → Toks → Read LetPat
+let_pattern_with most k d ts = if is_mark mark.Underscore ts then Ok (let_any (here ts), after ts)
+    else (if is_mark mark.Dot ts then let_case_with most k d ts
     else on_some (name_at ts) (λ n. Ok (let_bind n, after ts)) (let_literal_with ts))
 
-unfoldable pub let_patterns_with : PatternReader → List LetPat → Toks → Read (List LetPat)
-let_patterns_with k ps ts = let_pattern_with k ts >>= λ p. if is_mark mark.Comma p.1 then k (let_patterns_on (ps ++ p.0 ∷ [])) (after p.1) else Ok (ps ++ p.0 ∷ [], p.1)
+unfoldable pub let_patterns_with : ℕ → PatternReader → List LetPat → ℕ → Toks → Read (List LetPat)
+let_patterns_with most k ps d ts = let_pattern_with most k d ts >>= λ p. if is_mark mark.Comma p.1 then k (let_patterns_on (ps ++ p.0 ∷ [])) d (after p.1) else Ok (ps ++ p.0 ∷ [], p.1)
 
-unfoldable pub parts_with : PatternReader → Toks → Name → Toks → Read Pat
-parts_with k ts n us = k (patterns_on []) us >>= λ ps. if is_mark mark.CloseParen ps.1 then Ok (on_case (till (here ts) (here ps.1)) n (pats_of ps.0), after ps.1) else syntax_at ps.1
+unfoldable pub parts_with : ℕ → PatternReader → ℕ → Toks → Name → Toks → Read Pat
+parts_with most k d ts n us = if nat_lt d most then
+    (k (patterns_on []) (d + 1) us >>= λ ps. if is_mark mark.CloseParen ps.1 then Ok (on_case (till (here ts) (here ps.1)) n (pats_of ps.0), after ps.1) else syntax_at ps.1)
+    else depth_at us
 
-unfoldable pub case_with : PatternReader → Toks → Read Pat
-case_with k ts = on_some (name_at (after ts))
-    (λ n. if is_mark mark.OpenParen (after (after ts)) then parts_with k ts n (after (after (after ts))) else Ok (on_case (till (here ts) (here (after ts))) n no_pats, after (after ts)))
+unfoldable pub case_with : ℕ → PatternReader → ℕ → Toks → Read Pat
+case_with most k d ts = on_some (name_at (after ts))
+    (λ n. if is_mark mark.OpenParen (after (after ts)) then parts_with most k d ts n (after (after (after ts))) else Ok (on_case (till (here ts) (here (after ts))) n no_pats, after (after ts)))
     (syntax_at (after ts))
 
 -- after a `let`
-unfoldable pub bind_with : PatternReader → Toks → Read Pat
-bind_with k ts = on_some (name_at (after ts)) (λ n. Ok (bind (till (here ts) (here (after ts))) n, after (after ts)))
-    (if is_mark mark.Dot (after ts) then (k let_pattern (after ts) >>= λ p. Ok (bind_case (till (here ts) (let_pat_span p.0)) p.0, p.1)) else syntax_at (after ts))
+unfoldable pub bind_with : PatternReader → ℕ → Toks → Read Pat
+bind_with k d ts = on_some (name_at (after ts)) (λ n. Ok (bind (till (here ts) (here (after ts))) n, after (after ts)))
+    (if is_mark mark.Dot (after ts) then (k let_pattern d (after ts) >>= λ p. Ok (bind_case (till (here ts) (let_pat_span p.0)) p.0, p.1)) else syntax_at (after ts))
 
 unfoldable pub literal_pattern_with : Toks → Read Pat
 literal_pattern_with ts =
@@ -126,27 +131,27 @@ literal_pattern_with ts =
     (on_some (number_at ts) (λ n. Ok (on_number (here ts) false n, after ts))
     (on_some (negative_at false ts) (λ n. Ok (on_number (till (here ts) (here (after ts))) true n, after (after ts))) (syntax_at ts)))
 
-unfoldable pub pattern_with : PatternReader → Toks → Read Pat
-pattern_with k ts = if is_mark mark.Underscore ts then Ok (any (here ts), after ts)
-    else (if is_word word.Let ts then bind_with k ts
-    else (if is_mark mark.Dot ts then case_with k ts else literal_pattern_with ts))
+unfoldable pub pattern_with : ℕ → PatternReader → ℕ → Toks → Read Pat
+pattern_with most k d ts = if is_mark mark.Underscore ts then Ok (any (here ts), after ts)
+    else (if is_word word.Let ts then bind_with k d ts
+    else (if is_mark mark.Dot ts then case_with most k d ts else literal_pattern_with ts))
 
-unfoldable pub patterns_with : PatternReader → List Pat → Toks → Read (List Pat)
-patterns_with k ps ts = pattern_with k ts >>= λ p. if is_mark mark.Comma p.1 then k (patterns_on (ps ++ p.0 ∷ [])) (after p.1) else Ok (ps ++ p.0 ∷ [], p.1)
+unfoldable pub patterns_with : ℕ → PatternReader → List Pat → ℕ → Toks → Read (List Pat)
+patterns_with most k ps d ts = pattern_with most k d ts >>= λ p. if is_mark mark.Comma p.1 then k (patterns_on (ps ++ p.0 ∷ [])) d (after p.1) else Ok (ps ++ p.0 ∷ [], p.1)
 
-unfoldable pub pattern_step : PatternReader → PatternReader
-pattern_step k let_pattern ts = let_pattern_with k ts
-pattern_step k (let_patterns_on ps) ts = let_patterns_with k ps ts
-pattern_step k pattern ts = pattern_with k ts
-pattern_step k (patterns_on ps) ts = patterns_with k ps ts
+unfoldable pub pattern_step : ℕ → PatternReader → PatternReader
+pattern_step most k let_pattern d ts = let_pattern_with most k d ts
+pattern_step most k (let_patterns_on ps) d ts = let_patterns_with most k ps d ts
+pattern_step most k pattern d ts = pattern_with most k d ts
+pattern_step most k (patterns_on ps) d ts = patterns_with most k ps d ts
 
 -- fuel is more than the number of tokens
-unfoldable pub read_pattern_at : ℕ → PatternReader
-read_pattern_at zero g ts = Err (Syntax 0)
-read_pattern_at (suc fuel) g ts = pattern_step (read_pattern_at fuel) g ts
+unfoldable pub read_pattern_at : ℕ → ℕ → PatternReader
+read_pattern_at most zero g d ts = Err (Syntax 0)
+read_pattern_at most (suc fuel) g d ts = pattern_step most (read_pattern_at most fuel) g d ts
 
-unfoldable pub read_pattern : PatternReader
-read_pattern g ts = read_pattern_at (suc (length ts)) g ts
+unfoldable pub read_pattern : ℕ → PatternReader
+read_pattern most g d ts = read_pattern_at most (suc (length ts)) g d ts
 
 -- ---- expressions, statements and blocks
 
@@ -442,17 +447,17 @@ where_with k d [] ts = Ok (case_of no_pats, ts)
 where_with k d (p ∷ []) ts = if is_word word.Where ts then (k (expression Plain) d (after ts) >>= λ e. Ok (case_where p e.0, e.1)) else Ok (case_of (pat p no_pats), ts)
 where_with k d (p ∷ q ∷ ps) ts = Ok (case_of (pat p (pats_of (q ∷ ps))), ts)
 
-unfoldable pub head_with : Reader → ℕ → Toks → Read When
-head_with k d ts = if is_word word.Case ts then (read_pattern (patterns_on []) (after ts) >>= λ ps. where_with k d ps.0 ps.1)
+unfoldable pub head_with : ℕ → Reader → ℕ → Toks → Read When
+head_with most k d ts = if is_word word.Case ts then (read_pattern most (patterns_on []) d (after ts) >>= λ ps. where_with k d ps.0 ps.1)
     else (if is_word word.Default ts then Ok (default, after ts) else syntax_at ts)
 
-unfoldable pub clause_with : Reader → ℕ → Toks → Read Cla
-clause_with k d ts = head_with k d ts >>= λ h. if is_mark mark.Colon h.1
+unfoldable pub clause_with : ℕ → Reader → ℕ → Toks → Read Cla
+clause_with most k d ts = head_with most k d ts >>= λ h. if is_mark mark.Colon h.1
     then (k (clause_on []) d (after h.1) >>= λ ss. Ok ((till (here ts) (stms_end (here h.1) (stms_of ss.0)), h.0, stms_of ss.0), ss.1))
     else syntax_at h.1
 
-unfoldable pub clauses_with : Reader → List Cla → ℕ → Toks → Read (List Cla)
-clauses_with k cs d ts = if is_mark mark.CloseBrace ts then Ok (cs, ts) else (clause_with k d ts >>= λ c. k (clauses_on (cs ++ c.0 ∷ [])) d c.1)
+unfoldable pub clauses_with : ℕ → Reader → List Cla → ℕ → Toks → Read (List Cla)
+clauses_with most k cs d ts = if is_mark mark.CloseBrace ts then Ok (cs, ts) else (clause_with most k d ts >>= λ c. k (clauses_on (cs ++ c.0 ∷ [])) d c.1)
 
 unfoldable pub block_with : ℕ → Reader → ℕ → Toks → Read Blk
 block_with most k d ts = if nat_lt d most then (if is_mark mark.OpenBrace ts then
@@ -468,7 +473,7 @@ step most k (arguments_on xs) d ts = arguments_with most k xs d ts
 step most k statement d ts = statement_with most k d ts
 step most k (statements_on ss) d ts = statements_with most k ss d ts
 step most k (clause_on ss) d ts = clause_statements_with most k ss d ts
-step most k (clauses_on cs) d ts = clauses_with k cs d ts
+step most k (clauses_on cs) d ts = clauses_with most k cs d ts
 step most k body d ts = block_with most k d ts
 
 -- fuel is more than the number of tokens
