@@ -1,5 +1,5 @@
 -- What a function that reads ensures.
-use Rattle.std.specs.Prelude.{◌≡◌, List, Result, Ok, Err}
+use Rattle.std.specs.Prelude.{◌≡◌, Result, Ok, Err}
 use Rattle.own_grammar.specs.Reading.{Fault, Syntax, Depth}
 use Rattle.own_expr.specs.declared.fault.ReadError.{ReadError}
 use Rattle.own_expr.specs.declared.fault.ReadError.TheVariants as errors

@@ -2,8 +2,10 @@
 #![tactic(auto)]
 
 mod fault;
+mod let_patterns;
 mod lines;
 mod next;
 mod nodes;
 mod operators;
 mod paths;
+mod patterns;

@@ -181,11 +181,10 @@ fn names_at(
         found.push(name)?;
         let more = after(left);
         if !is_mark(Mark::Comma, more) {
-            return Ok(if is_word(Word::In, more) {
-                Some((found, after(more)))
-            } else {
-                None
-            });
+            if is_word(Word::In, more) {
+                return Ok(Some((found, after(more))));
+            }
+            return Ok(None);
         }
         left = after(more);
     }

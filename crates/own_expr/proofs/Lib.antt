@@ -1,0 +1,5 @@
+pub mod Ends
+pub mod Fields
+pub mod Names
+pub mod LetPatternList
+pub mod PatternList
