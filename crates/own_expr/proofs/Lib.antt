@@ -1,3 +1,6 @@
+pub mod Opens
+pub mod Tails
+pub mod Whole
 pub mod Ends
 pub mod Fields
 pub mod Names

@@ -5,7 +5,7 @@ use std::alloc::{AllocError, AllocFailed};
 
 /// Why tokens could not be read. A place is the number of tokens that are left there.
 #[derive(Debug, Drop)]
-pub(crate) enum ReadError {
+pub enum ReadError {
     Memory,
     Syntax(usize),
     Depth(usize),

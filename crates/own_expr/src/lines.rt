@@ -53,7 +53,7 @@ fn allows(context: Context) -> bool
 
 /// The parenthesis of a call.
 #[tactic(auto, unfolding(own_grammar::specs::Tests::opens))]
-pub(crate) fn opens(context: Context, rest: &[Token]) -> bool
+pub fn opens(context: Context, rest: &[Token]) -> bool
     ensures value { result ≡ spec.opens context rest.now }
     ensures some { result ≡ true → 0 < length rest.now }
 {
@@ -71,7 +71,7 @@ pub(crate) fn closes(context: Context, rest: &[Token]) -> bool
 
 /// Whether no token is left.
 #[tactic(auto, unfolding(own_grammar::specs::Tests::kind_at))]
-fn is_over(rest: &[Token]) -> bool
+pub fn is_over(rest: &[Token]) -> bool
     ensures { result ≡ spec.is_over rest.now }
 {
     rest.is_empty()
@@ -131,7 +131,7 @@ fn ends_after(bare: bool, rest: &[Token]) -> bool
 
 /// What follows the end of a statement: `bare` says that it is a `return` without a value.
 #[tactic(auto, unfolding(own_grammar::specs::Reading::sep_at))]
-pub(crate) fn sep_at(bare: bool, rest: &[Token]) -> Result<&[Token], ReadError>
+pub fn sep_at(bare: bool, rest: &[Token]) -> Result<&[Token], ReadError>
     ensures gives { Gives (λ x. x.now) result (reading.sep_at bare rest.now) }
     ensures within { IfOk result (λ x. length x.now ≤ length rest.now) }
 {

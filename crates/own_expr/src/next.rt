@@ -11,7 +11,7 @@ use own_tree::{Kind, Mark, Row, Span, Token, Word};
 use std::alloc::{AllocError, Global};
 
 /// All but the first token.
-pub(crate) fn after(rest: &[Token]) -> &[Token]
+pub fn after(rest: &[Token]) -> &[Token]
     ensures value { result.now ≡ spec.after rest.now }
     ensures within { length result.now ≤ length rest.now }
     ensures shorter { 0 < length rest.now → length result.now < length rest.now }
@@ -23,7 +23,7 @@ pub(crate) fn after(rest: &[Token]) -> &[Token]
 }
 
 /// The span of the next token.
-pub(crate) fn here(rest: &[Token]) -> Span
+pub fn here(rest: &[Token]) -> Span
     ensures { result ≡ spec.here rest.now }
 {
     match rest {
@@ -33,7 +33,7 @@ pub(crate) fn here(rest: &[Token]) -> Span
 }
 
 /// From the start of the one to the end of the other.
-pub(crate) fn till(from: Span, to: Span) -> Span
+pub fn till(from: Span, to: Span) -> Span
     ensures { result ≡ spec.till from to }
 {
     Span {
@@ -42,8 +42,9 @@ pub(crate) fn till(from: Span, to: Span) -> Span
     }
 }
 
+/// What the next token is.
 #[tactic(auto, unfolding(own_grammar::specs::Tests::kind_at))]
-pub(crate) fn kind_at(rest: &[Token]) -> Option<&Kind>
+pub fn kind_at(rest: &[Token]) -> Option<&Kind>
     ensures value { option_copied result ≡ spec.kind_at rest.now }
     ensures some { IfSome result (λ _. 0 < length rest.now) }
 {
@@ -53,8 +54,9 @@ pub(crate) fn kind_at(rest: &[Token]) -> Option<&Kind>
     }
 }
 
+/// Whether the next token is this mark.
 #[tactic(auto, unfolding(own_grammar::specs::Tests::is_mark))]
-pub(crate) fn is_mark(mark: Mark, rest: &[Token]) -> bool
+pub fn is_mark(mark: Mark, rest: &[Token]) -> bool
     ensures value { result ≡ spec.is_mark mark rest.now }
     ensures some { result ≡ true → 0 < length rest.now }
 {
@@ -64,8 +66,9 @@ pub(crate) fn is_mark(mark: Mark, rest: &[Token]) -> bool
     }
 }
 
+/// Whether the next token is this reserved word.
 #[tactic(auto, unfolding(own_grammar::specs::Tests::is_word))]
-pub(crate) fn is_word(word: Word, rest: &[Token]) -> bool
+pub fn is_word(word: Word, rest: &[Token]) -> bool
     ensures value { result ≡ spec.is_word word rest.now }
     ensures some { result ≡ true → 0 < length rest.now }
 {
@@ -99,7 +102,7 @@ pub(crate) fn truth_at(rest: &[Token]) -> Option<bool>
 
 /// NAME. A word is never one.
 #[tactic(auto, unfolding(own_grammar::specs::Tests::name_at))]
-pub(crate) fn name_at(alloc: Global, rest: &[Token]) -> Result<Option<Name>, AllocError>
+pub fn name_at(alloc: Global, rest: &[Token]) -> Result<Option<Name>, AllocError>
     ensures value { IfOk result (λ name. name ≡ spec.name_at rest.now) }
     ensures some { IfOk result (λ name. IfSome name (λ _. 0 < length rest.now)) }
 {
@@ -189,7 +192,7 @@ fn word_keyword(word: Word) -> Option<Keyword>
 
 /// `let` or `var`.
 #[tactic(auto, unfolding(own_grammar::specs::Tests::keyword_at))]
-pub(crate) fn keyword_at(rest: &[Token]) -> Option<Keyword>
+pub fn keyword_at(rest: &[Token]) -> Option<Keyword>
     ensures value { result ≡ spec.keyword_at rest.now }
     ensures some { IfSome result (λ _. 0 < length rest.now) }
 {

@@ -1,0 +1,4 @@
+pub mod ListSteps
+pub mod Ends
+pub mod FileTails
+pub mod Whole

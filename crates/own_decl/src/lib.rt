@@ -1,0 +1,13 @@
+//! The parser of declarations and of the file.
+#![tactic(auto)]
+
+mod declarations;
+mod file;
+mod members;
+mod parse_file;
+mod read;
+#[cfg(test)]
+mod tests;
+mod types;
+
+pub use parse_file::parse;
