@@ -1,0 +1,4 @@
+//! Whether patterns match every value of a type, and the first form of a value that none matches.
+#![tactic(auto)]
+
+mod head;
