@@ -1,1 +1,4 @@
 pub mod Worked
+pub mod Tuples
+pub mod Order
+pub mod Narrow

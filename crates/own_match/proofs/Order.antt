@@ -1,0 +1,153 @@
+-- Literals in rising order, and forms that come before one another.
+use Rattle.std.proofs.Common.{◌≡◌, ℕ, zero, suc, ◌+◌, ◌<◌, ◌≤◌, ◌⊎◌, ℤ, pos, negsuc, ◌<ℤ◌, Bool, true, false, List, [], ◌∷◌, length, get_or, inl, inr, refl, sym, ap, ◌∙◌, subst, Contains, arith, int_cmp, Ordering, Less, Equal, Greater}
+use Rattle.std.specs.Ordering.{MatchOrdering, match_ordering}
+use Rattle.std.specs.BTreeSet.{insert_key}
+use Rattle.std.specs.Cmp.{int_ranks, int_chain}
+use Rattle.std.specs.Int.Signed.{<ℤ_irrefl}
+use Rattle.own_tree.specs.TypedSource.{TPat, any, bind, of_case, of_number, of_truth, TPats, no_pats, pat}
+use Rattle.own_match.specs.Forms.{literals, ComesBefore, AllComeBefore}
+use Rattle.own_match.specs.Search.{rising}
+
+-- ---- membership by recursion
+
+abbrev pub In : List ℤ → ℤ → Type 0
+In [] n = ⊥
+In (m ∷ ms) n = (m ≡ n) ⊎ In ms n
+
+pub contains_in : (ms : List ℤ) (n : ℤ) → In ms n → Contains ms n
+contains_in [] n h = absurd h
+contains_in (m ∷ ms) n (inl e) = (0, omega arith, e)
+contains_in (m ∷ ms) n (inr h) = let r = contains_in ms n h in (suc r.0, omega (arith, r.1), r.2)
+
+pub in_contains : (ms : List ℤ) (n : ℤ) → Contains ms n → In ms n
+in_contains [] n (k, l, e) = absurd (omega (arith, l))
+in_contains (m ∷ ms) n (zero, l, e) = inl e
+in_contains (m ∷ ms) n (suc k, l, e) = inr (in_contains ms n (k, omega (arith, l), e))
+
+-- ---- rising
+
+abbrev pub Above : ℤ → List ℤ → Type 0
+Above n [] = Unit {0}
+Above n (m ∷ ms) = (n <ℤ m) × Above n ms
+
+abbrev pub Rises : List ℤ → Type 0
+Rises [] = Unit {0}
+Rises (n ∷ ns) = Above n ns × Rises ns
+
+above_all : (n m : ℤ) (ns : List ℤ) → n <ℤ m → Above m ns → Above n ns
+above_all n m [] l a = tt
+above_all n m (k ∷ ns) l a = (int_chain n m k l a.0, above_all n m ns l a.1)
+
+above_insert : (n m : ℤ) (ns : List ℤ) → n <ℤ m → Above n ns → Above n (insert_key int_cmp ns m)
+above_insert n m [] l a = (l, tt)
+above_insert n m (k ∷ ns) l a = by_order (int_cmp m k) (above_insert n m ns l a.1)
+  where
+    by_order : (o : Ordering) → Above n (insert_key int_cmp ns m) → Above n (match_ordering o (m ∷ k ∷ ns) (k ∷ ns) (k ∷ insert_key int_cmp ns m))
+    by_order Less later = (l, a)
+    by_order Equal later = a
+    by_order Greater later = (a.0, later)
+
+insert_rises : (m : ℤ) (ns : List ℤ) → Rises ns → Rises (insert_key int_cmp ns m)
+insert_rises m [] r = (tt, tt)
+insert_rises m (k ∷ ns) r = by_order (int_cmp m k) (insert_rises m ns r.1) (int_ranks m k)
+  where
+    by_order : (o : Ordering) → Rises (insert_key int_cmp ns m) → MatchOrdering o (m <ℤ k) (m ≡ k) (k <ℤ m) → Rises (match_ordering o (m ∷ k ∷ ns) (k ∷ ns) (k ∷ insert_key int_cmp ns m))
+    by_order Less later h = ((h, above_all m k ns h r.0), r)
+    by_order Equal later h = r
+    by_order Greater later h = (above_insert k m ns h r.0, later)
+
+insert_in : (m n : ℤ) (ns : List ℤ) → (m ≡ n) ⊎ In ns n → In (insert_key int_cmp ns m) n
+insert_in m n [] (inl e) = inl e
+insert_in m n [] (inr h) = absurd h
+insert_in m n (k ∷ ns) h = by_order (int_cmp m k) (insert_in m n ns) (int_ranks m k) h
+  where
+    by_order : (o : Ordering) → ((m ≡ n) ⊎ In ns n → In (insert_key int_cmp ns m) n) → MatchOrdering o (m <ℤ k) (m ≡ k) (k <ℤ m) → (m ≡ n) ⊎ In (k ∷ ns) n → In (match_ordering o (m ∷ k ∷ ns) (k ∷ ns) (k ∷ insert_key int_cmp ns m)) n
+    by_order Less later r h = h
+    by_order Equal later r (inl e) = inl (sym r ∙ e)
+    by_order Equal later r (inr h) = h
+    by_order Greater later r (inl e) = inr (later (inl e))
+    by_order Greater later r (inr (inl e)) = inl e
+    by_order Greater later r (inr (inr h)) = inr (later (inr h))
+
+in_insert : (m n : ℤ) (ns : List ℤ) → In (insert_key int_cmp ns m) n → (m ≡ n) ⊎ In ns n
+in_insert m n [] h = h
+in_insert m n (k ∷ ns) h = by_order (int_cmp m k) (in_insert m n ns) h
+  where
+    later : (m ≡ n) ⊎ In ns n → (m ≡ n) ⊎ In (k ∷ ns) n
+    later (inl e) = inl e
+    later (inr h) = inr (inr h)
+
+    by_order : (o : Ordering) → (In (insert_key int_cmp ns m) n → (m ≡ n) ⊎ In ns n) → In (match_ordering o (m ∷ k ∷ ns) (k ∷ ns) (k ∷ insert_key int_cmp ns m)) n → (m ≡ n) ⊎ In (k ∷ ns) n
+    by_order Less deeper h = h
+    by_order Equal deeper h = inr h
+    by_order Greater deeper (inl e) = inr (inl e)
+    by_order Greater deeper (inr h) = later (deeper h)
+
+pub rising_rises : (ps : List TPat) → Rises (rising ps)
+rising_rises [] = tt
+rising_rises (of_number n ∷ ps) = insert_rises n (rising ps) (rising_rises ps)
+rising_rises (any ∷ ps) = rising_rises ps
+rising_rises (bind x ∷ ps) = rising_rises ps
+rising_rises (of_case c qs ∷ ps) = rising_rises ps
+rising_rises (of_truth b ∷ ps) = rising_rises ps
+
+pub rising_in : (ps : List TPat) (n : ℤ) → In (literals ps) n → In (rising ps) n
+rising_in [] n h = h
+rising_in (of_number m ∷ ps) n (inl e) = insert_in m n (rising ps) (inl e)
+rising_in (of_number m ∷ ps) n (inr h) = insert_in m n (rising ps) (inr (rising_in ps n h))
+rising_in (any ∷ ps) n h = rising_in ps n h
+rising_in (bind x ∷ ps) n h = rising_in ps n h
+rising_in (of_case c qs ∷ ps) n h = rising_in ps n h
+rising_in (of_truth b ∷ ps) n h = rising_in ps n h
+
+pub in_rising : (ps : List TPat) (n : ℤ) → In (rising ps) n → In (literals ps) n
+in_rising [] n h = h
+in_rising (of_number m ∷ ps) n h = by_place (in_rising ps n) (in_insert m n (rising ps) h)
+  where
+    by_place : (In (rising ps) n → In (literals ps) n) → (m ≡ n) ⊎ In (rising ps) n → (m ≡ n) ⊎ In (literals ps) n
+    by_place later (inl e) = inl e
+    by_place later (inr h) = inr (later h)
+in_rising (any ∷ ps) n h = in_rising ps n h
+in_rising (bind x ∷ ps) n h = in_rising ps n h
+in_rising (of_case c qs ∷ ps) n h = in_rising ps n h
+in_rising (of_truth b ∷ ps) n h = in_rising ps n h
+
+-- ---- a number that is not among given ones
+
+magnitude : ℤ → ℕ
+magnitude (pos n) = n
+magnitude (negsuc n) = 0
+
+total : List ℤ → ℕ
+total [] = 0
+total (n ∷ ns) = magnitude n + total ns
+
+pub fresh : List ℤ → ℤ
+fresh ns = pos (suc (total ns))
+
+within : (ns : List ℤ) (n : ℤ) → In ns n → magnitude n ≤ total ns
+unfolding magnitude total
+within [] n h = absurd h
+within (m ∷ ns) n (inl e) = subst (λ k. magnitude k ≤ magnitude m + total ns) e (omega arith)
+within (m ∷ ns) n (inr h) = omega (arith, within ns n h)
+
+pub fresh_apart : (ns : List ℤ) → In ns (fresh ns) → ⊥
+unfolding fresh magnitude
+fresh_apart ns h = omega (arith, within ns (fresh ns) h)
+
+-- ---- a form does not come before itself
+
+mutual
+  pub apart_from_itself : (f : TPat) → ComesBefore f f → ⊥
+  apart_from_itself any h = h
+  apart_from_itself (bind x) h = h
+  apart_from_itself (of_number n) h = <ℤ_irrefl h
+  apart_from_itself (of_truth true) h = h
+  apart_from_itself (of_truth false) h = h
+  apart_from_itself (of_case k fs) (inl h) = omega (arith, h)
+  apart_from_itself (of_case k fs) (inr h) = all_apart_from_themselves fs h.1
+
+  pub all_apart_from_themselves : (fs : TPats) → AllComeBefore fs fs → ⊥
+  all_apart_from_themselves no_pats h = h
+  all_apart_from_themselves (pat f fs) (inl h) = apart_from_itself f h
+  all_apart_from_themselves (pat f fs) (inr h) = all_apart_from_themselves fs h.1
