@@ -2,3 +2,4 @@ pub mod Worked
 pub mod Tuples
 pub mod Order
 pub mod Narrow
+pub mod Exact

@@ -11,7 +11,7 @@ use Rattle.own_match.specs.Search.{accepts, narrowed}
 use Rattle.own_match.proofs.Order.{In}
 use Rattle.own_match.proofs.Tuples.{IsLive, CellMatches, PartsMatch}
 
-false_true : {A : Type 0} → false ≡ true → A
+pub false_true : {A : Type 0} → false ≡ true → A
 false_true e = absurd (true≢false (sym e))
 
 -- ---- live patterns

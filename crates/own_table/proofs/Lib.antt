@@ -3,6 +3,7 @@ pub mod Orders
 pub mod Descent
 pub mod Leaves
 pub mod Unfolding
+pub mod Whole
 pub mod Causes
 pub mod Sound
 pub mod TraceFacts

@@ -1,4 +1,6 @@
 pub mod Types
+pub mod Measures
+pub mod Table
 pub mod Within
 pub mod Captures
 pub mod Ops
