@@ -1,5 +1,5 @@
 -- The search is exact: it gives the first forms that no live pattern matches, and none where there are no such.
-use Rattle.std.proofs.Common.{◌≡◌, ℕ, zero, suc, ◌+◌, ◌<◌, ◌⊎◌, ◌≤◌, ℤ, pos, negsuc, ◌<ℤ◌, Bool, true, false, ◌||◌, ◌&&◌, List, [], ◌∷◌, map, Option, Some, None, slice_get, if◌then◌else◌, inl, inr, refl, sym, ap, ◌∙◌, subst, Contains, arith}
+use Rattle.std.proofs.Common.{◌≡◌, ℕ, zero, suc, ◌+◌, ◌<◌, ◌⊎◌, ◌≤◌, ℤ, pos, negsuc, ◌<ℤ◌, Bool, true, false, ◌||◌, ◌&&◌, List, [], ◌∷◌, map, Option, Some, None, slice_get, if◌then◌else◌, inl, inr, refl, sym, ap, ◌∙◌, subst, Contains, arith, ◌-◌, eq-or-lt_of_le, zero-add, add-zero}
 use Rattle.std.proofs.lemmas.Option.{same_Some, none-some}
 use Rattle.std.specs.Cmp.{int_chain}
 use Rattle.std.specs.Int.Signed.{<ℤ_irrefl}
@@ -13,7 +13,7 @@ use Rattle.own_match.specs.Forms.{inside, literals, IsForm, IsFormOfCase, AreFor
 use Rattle.own_match.specs.Search.{inhabited, all_inhabited, one_inhabited, accepts, narrowed, rising, or_else, led, front, back, gathered, count, Later, gap_in_numbers, gap_in_truths, gap_where, gap, gap_in_cases, gap_in_payloads, Column, any_live, gap_end, gap_columns}
 use Rattle.own_match.proofs.Order.{In, contains_in, in_contains, Above, Rises, rising_rises, rising_in, in_rising, fresh, fresh_apart, apart_from_itself}
 use Rattle.own_match.proofs.Tuples.{TupleOf, Forms, Stand, CellMatches, RowMatches, IsLive, Matched, column, before, join, join_vals, front_vals, back_vals, join_front_back, tuple_front, tuple_join, forms_front, forms_join, stand_front, stand_join, PartsMatch, row_join, row_parts, join_before, join_same}
-use Rattle.own_match.proofs.Narrow.{CellAccepts, narrowed_live, live_narrowed, number_matches, matches_number, truth_matches, matches_truth, anything_matches, matches_struct, matches_opaque, matches_other, case_parts, parts_case}
+use Rattle.own_match.proofs.Narrow.{false_true, CellAccepts, narrowed_live, live_narrowed, number_matches, matches_number, truth_matches, matches_truth, anything_matches, matches_struct, matches_opaque, matches_other, case_parts, parts_case}
 
 -- ---- what is said of a search over some of the forms
 
@@ -610,3 +610,132 @@ module _ (h : TypeHead) (all : Payloads) (cells : List TPat) (cs : List Column) 
           let sooner = earlier_parts e.0 gs (subst (λ x. AllComeBefore (pat x gs) (pat (of_case k (front (count ss) fs)) (back (count ss) fs))) e.1 earlier) in
           subst (λ x. AllMatched (first_column ∷ cs) live (pat x gs)) (sym e.1)
             (case_matched e.0 gs (a.first (join e.0 gs) tt (forms_join ss k 0 cells cs e.0 gs parts forms.1) sooner) parts)
+
+-- ---- the whole search
+
+payload_later : (all cases : Payloads) (ss : Shapes) (k : ℕ) → ((j : ℕ) → payload_at all (k + j) ≡ payload_at (payloads ss cases) j)
+    → (j : ℕ) → payload_at all (suc k + j) ≡ payload_at cases j
+payload_later all cases ss k same j = let e : suc k + j ≡ k + suc j = omega arith in ap (payload_at all) e ∙ same (suc j)
+
+past_all : (h : TypeHead) (all : Payloads) (cells : List TPat) (cs : List Column) (k : ℕ) → ((j : ℕ) → payload_at all (k + j) ≡ None)
+    → (gs : TPats) → FromCase k gs → Forms (column (shape.enum h all) cells ∷ cs) gs → ⊥
+past_all h all cells cs k same no_pats e forms = e
+past_all h all cells cs k same (pat f fs) (j, gs, le, e) forms =
+    let i : k + (j - k) ≡ j = omega (arith, le) in
+    subst (λ o. FormsAt o j cells gs) (sym (ap (payload_at all) i) ∙ same (j - k)) (forms_at all j j cells gs (subst (λ x. IsForm (shape.enum h all) cells x) e forms.0))
+
+module _ (h : TypeHead) (all : Payloads) (cells : List TPat) (cs : List Column) (live : List Bool) (k : ℕ) where
+  abbrev the_column : Column
+  the_column = column (shape.enum h all) cells
+
+  good_later : (ss : Shapes) (r s : Option TPats) → payload_at all k ≡ Some ss → Exact (before ss k 0 cells cs) (narrowed (head.Case k) live cells) r
+      → Good (FromCase (suc k)) (the_column ∷ cs) live s → Good (FromCase k) (the_column ∷ cs) live (or_else (gathered k (count ss) r) s)
+  good_later ss r s at_k a b =
+      good_as (λ f. OfCase k f ⊎ FromCase (suc k) f) (FromCase k) (the_column ∷ cs) live (or_else (gathered k (count ss) r) s)
+        (good_or_else (OfCase k) (FromCase (suc k)) (the_column ∷ cs) live (gathered k (count ss) r) s (good_gathered h all cells cs live k ss at_k r a) b apart) into from
+    where
+      cases_same : (j : ℕ) (fs gs : TPats) → of_case j gs ≡ of_case k fs → j ≡ k
+      cases_same j fs gs e = cc
+
+      apart : (f g : TPats) → OfCase k f → FromCase (suc k) g → AllComeBefore g f → ⊥
+      apart no_pats g e l earlier = e
+      apart (pat f fs) no_pats e l earlier = l
+      apart (pat f fs) (pat g gs) (ps, e) (j, qs, le, d) (inl earlier) = not_later (subst (λ x. ComesBefore (of_case j qs) x) e (subst (λ x. ComesBefore x f) d earlier))
+        where
+          not_later : ComesBefore (of_case j qs) (of_case k ps) → ⊥
+          not_later (inl l) = omega (arith, l, le)
+          not_later (inr m) = omega (arith, m.0, le)
+      apart (pat f fs) (pat g gs) (ps, e) (j, qs, le, d) (inr earlier) = omega (arith, cases_same j ps qs (sym d ∙ earlier.0 ∙ e), le)
+
+      into : (f : TPats) → OfCase k f ⊎ FromCase (suc k) f → FromCase k f
+      into no_pats (inl e) = e
+      into no_pats (inr e) = e
+      into (pat f fs) (inl (gs, e)) = (k, gs, omega arith, e)
+      into (pat f fs) (inr (j, gs, le, e)) = (j, gs, omega (arith, le), e)
+
+      from : (f : TPats) → Forms (the_column ∷ cs) f → FromCase k f → OfCase k f ⊎ FromCase (suc k) f
+      from no_pats forms e = inl e
+      from (pat f fs) forms (j, gs, le, e) = by_number (eq-or-lt_of_le le)
+        where
+          by_number : (k ≡ j) ⊎ (k < j) → OfCase k (pat f fs) ⊎ FromCase (suc k) (pat f fs)
+          by_number (inl same) = inl (gs, e ∙ ap (λ x. of_case x gs) (sym same))
+          by_number (inr l) = inr (j, gs, omega (arith, l), e)
+
+enum_everything : (h : TypeHead) (all : Payloads) (cells : List TPat) (cs : List Column) (live : List Bool) (r : Option TPats)
+    → Good (FromCase 0) (column (shape.enum h all) cells ∷ cs) live r → Exact (column (shape.enum h all) cells ∷ cs) live r
+enum_everything h all cells cs live r a = good_as (FromCase 0) Everything (column (shape.enum h all) cells ∷ cs) live r a (λ f e. tt) from
+  where
+    from : (f : TPats) → Forms (column (shape.enum h all) cells ∷ cs) f → Unit {0} → FromCase 0 f
+    from no_pats forms e = forms
+    from (pat (of_case k gs) fs) forms e = (k, gs, omega arith, refl)
+    from (pat any fs) forms e = absurd forms.0
+    from (pat (bind x) fs) forms e = absurd forms.0
+    from (pat (of_number n) fs) forms e = absurd forms.0
+    from (pat (of_truth b) fs) forms e = absurd forms.0
+
+abbrev IsExact : List Column → Later → Type 0
+IsExact cs next = (live : List Bool) → Exact cs live (next live)
+
+mutual
+  pub gap_exact : (s : Shape) (cells : List TPat) (cs : List Column) (next : Later) → ((live : List Bool) → Exact cs live (next live))
+      → (live : List Bool) → Exact (column s cells ∷ cs) live (gap s cells next live)
+  gap_exact shape.number cells cs next exact live = number_exact cells cs next exact live
+  gap_exact shape.truth cells cs next exact live = truth_exact cells cs next exact live
+  gap_exact shape.no_value cells cs next exact live = where_live shape.no_value cells cs next exact live (any_alone_opaque cells) (no_value_leads cells)
+  gap_exact shape.closure cells cs next exact live = where_live shape.closure cells cs next exact live (any_alone_closure cells) (closure_leads cells)
+  gap_exact (shape.struct h fields) cells cs next exact live = struct_exact h fields cells cs next exact live (all_inhabited fields) (all_live fields)
+  gap_exact (shape.enum h cases) cells cs next exact live =
+      enum_everything h cases cells cs live (gap_in_cases cases zero cells next live) (cases_exact cases h cases zero cells cs next exact live (λ j. ap (payload_at cases) (zero-add j)))
+
+  cases_exact : (cases : Payloads) (h : TypeHead) (all : Payloads) (k : ℕ) (cells : List TPat) (cs : List Column) (next : Later) → ((live : List Bool) → Exact cs live (next live))
+      → (live : List Bool) → ((j : ℕ) → payload_at all (k + j) ≡ payload_at cases j) → Good (FromCase k) (column (shape.enum h all) cells ∷ cs) live (gap_in_cases cases k cells next live)
+  cases_exact no_payloads h all k cells cs next exact live same = λ gs e forms. absurd (past_all h all cells cs k same gs e forms)
+  cases_exact (payloads ss cases) h all k cells cs next exact live same =
+      good_later h all cells cs live k ss (gap_in_payloads ss k zero cells next (narrowed (head.Case k) live cells)) (gap_in_cases cases (suc k) cells next live)
+        (sym (ap (payload_at all) (add-zero k)) ∙ same zero)
+        (payloads_exact ss k zero cells cs next exact (narrowed (head.Case k) live cells))
+        (cases_exact cases h all (suc k) cells cs next exact live (payload_later all cases ss k same))
+
+  payloads_exact : (ss : Shapes) (k i : ℕ) (cells : List TPat) (cs : List Column) (next : Later) → ((live : List Bool) → Exact cs live (next live))
+      → (live : List Bool) → Exact (before ss k i cells cs) live (gap_in_payloads ss k i cells next live)
+  payloads_exact no_shapes k i cells cs next exact live = exact live
+  payloads_exact (shape.shape s ss) k i cells cs next exact live =
+      gap_exact s (inside k i cells) (before ss k (suc i) cells cs) (gap_in_payloads ss k (suc i) cells next) (payloads_exact ss k (suc i) cells cs next exact) live
+
+-- ---- the end of the columns
+
+some_live : (live : List Bool) → any_live live ≡ true → (i : ℕ) × IsLive live i
+some_live [] e = false_true e
+some_live (true ∷ live) e = (zero, refl)
+some_live (false ∷ live) e = let r = some_live live e in (suc r.0, r.1)
+
+none_live : (live : List Bool) → any_live live ≡ false → (i : ℕ) → IsLive live i → ⊥
+none_live [] e i l = none-some _ l
+none_live (true ∷ live) e i l = false_true (sym e)
+none_live (false ∷ live) e zero l = false_true (same_Some _ _ l)
+none_live (false ∷ live) e (suc i) l = none_live live e i l
+
+end_exact : (live : List Bool) → Exact [] live (gap_end live)
+end_exact live = by_live (any_live live) refl
+  where
+    only : (vs : Vals) → TupleOf [] vs → (i : ℕ) × IsLive live i → Matched [] live vs
+    only no_vals t l = (l.0, l.1, tt)
+    only (val v vs) t l = absurd t
+
+    by_live : (b : Bool) → any_live live ≡ b → Exact [] live (if b then None else Some no_pats)
+    by_live true e = λ gs u forms vs t st. only vs t (some_live live e)
+    by_live false e = record {
+      one_of = tt;
+      forms = tt;
+      some = (no_vals, tt, tt);
+      none = λ vs t st m. none_live live e m.0 m.1;
+      first = λ gs u forms earlier. absurd (none_first gs forms earlier);
+    }
+      where
+        none_first : (gs : TPats) → Forms [] gs → AllComeBefore gs no_pats → ⊥
+        none_first no_pats forms earlier = earlier
+        none_first (pat g gs) forms earlier = forms
+
+pub columns_exact : (cs : List Column) (live : List Bool) → Exact cs live (gap_columns cs live)
+columns_exact [] live = end_exact live
+columns_exact (c ∷ cs) live = gap_exact c.shape c.cells cs (gap_columns cs) (columns_exact cs) live
