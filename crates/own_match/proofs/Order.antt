@@ -6,7 +6,7 @@ use Rattle.std.specs.Cmp.{int_ranks, int_chain}
 use Rattle.std.specs.Int.Signed.{<ℤ_irrefl}
 use Rattle.own_tree.specs.TypedSource.{TPat, any, bind, of_case, of_number, of_truth, TPats, no_pats, pat}
 use Rattle.own_match.specs.Forms.{literals, ComesBefore, AllComeBefore}
-use Rattle.own_match.specs.Search.{rising}
+use Rattle.own_match.specs.Search.{rising_onto, rising}
 
 -- ---- membership by recursion
 
@@ -83,34 +83,53 @@ in_insert m n (k ∷ ns) h = by_order (int_cmp m k) (in_insert m n ns) h
     by_order Greater deeper (inl e) = inr (inl e)
     by_order Greater deeper (inr h) = later (deeper h)
 
+onto_rises : (ns : List ℤ) (ps : List TPat) → Rises ns → Rises (rising_onto ns ps)
+onto_rises ns [] r = r
+onto_rises ns (of_number n ∷ ps) r = onto_rises (insert_key int_cmp ns n) ps (insert_rises n ns r)
+onto_rises ns (any ∷ ps) r = onto_rises ns ps r
+onto_rises ns (bind x ∷ ps) r = onto_rises ns ps r
+onto_rises ns (of_case c qs ∷ ps) r = onto_rises ns ps r
+onto_rises ns (of_truth b ∷ ps) r = onto_rises ns ps r
+
+first_of_three : (m n : ℤ) (ns ms : List ℤ) → (m ≡ n) ⊎ In ns n → In ns n ⊎ ((m ≡ n) ⊎ In ms n)
+first_of_three m n ns ms (inl e) = inr (inl e)
+first_of_three m n ns ms (inr h) = inl h
+
+onto_in : (ns : List ℤ) (ps : List TPat) (n : ℤ) → In ns n ⊎ In (literals ps) n → In (rising_onto ns ps) n
+onto_in ns [] n (inl h) = h
+onto_in ns [] n (inr h) = absurd h
+onto_in ns (of_number m ∷ ps) n (inl h) = onto_in (insert_key int_cmp ns m) ps n (inl (insert_in m n ns (inr h)))
+onto_in ns (of_number m ∷ ps) n (inr (inl e)) = onto_in (insert_key int_cmp ns m) ps n (inl (insert_in m n ns (inl e)))
+onto_in ns (of_number m ∷ ps) n (inr (inr h)) = onto_in (insert_key int_cmp ns m) ps n (inr h)
+onto_in ns (any ∷ ps) n h = onto_in ns ps n h
+onto_in ns (bind x ∷ ps) n h = onto_in ns ps n h
+onto_in ns (of_case c qs ∷ ps) n h = onto_in ns ps n h
+onto_in ns (of_truth b ∷ ps) n h = onto_in ns ps n h
+
+in_onto : (ns : List ℤ) (ps : List TPat) (n : ℤ) → In (rising_onto ns ps) n → In ns n ⊎ In (literals ps) n
+in_onto ns [] n h = inl h
+in_onto ns (of_number m ∷ ps) n h = by_place (in_onto (insert_key int_cmp ns m) ps n h)
+  where
+    by_place : In (insert_key int_cmp ns m) n ⊎ In (literals ps) n → In ns n ⊎ ((m ≡ n) ⊎ In (literals ps) n)
+    by_place (inl h) = first_of_three m n ns (literals ps) (in_insert m n ns h)
+    by_place (inr h) = inr (inr h)
+in_onto ns (any ∷ ps) n h = in_onto ns ps n h
+in_onto ns (bind x ∷ ps) n h = in_onto ns ps n h
+in_onto ns (of_case c qs ∷ ps) n h = in_onto ns ps n h
+in_onto ns (of_truth b ∷ ps) n h = in_onto ns ps n h
+
 pub rising_rises : (ps : List TPat) → Rises (rising ps)
-rising_rises [] = tt
-rising_rises (of_number n ∷ ps) = insert_rises n (rising ps) (rising_rises ps)
-rising_rises (any ∷ ps) = rising_rises ps
-rising_rises (bind x ∷ ps) = rising_rises ps
-rising_rises (of_case c qs ∷ ps) = rising_rises ps
-rising_rises (of_truth b ∷ ps) = rising_rises ps
+rising_rises ps = onto_rises [] ps tt
 
 pub rising_in : (ps : List TPat) (n : ℤ) → In (literals ps) n → In (rising ps) n
-rising_in [] n h = h
-rising_in (of_number m ∷ ps) n (inl e) = insert_in m n (rising ps) (inl e)
-rising_in (of_number m ∷ ps) n (inr h) = insert_in m n (rising ps) (inr (rising_in ps n h))
-rising_in (any ∷ ps) n h = rising_in ps n h
-rising_in (bind x ∷ ps) n h = rising_in ps n h
-rising_in (of_case c qs ∷ ps) n h = rising_in ps n h
-rising_in (of_truth b ∷ ps) n h = rising_in ps n h
+rising_in ps n h = onto_in [] ps n (inr h)
 
 pub in_rising : (ps : List TPat) (n : ℤ) → In (rising ps) n → In (literals ps) n
-in_rising [] n h = h
-in_rising (of_number m ∷ ps) n h = by_place (in_rising ps n) (in_insert m n (rising ps) h)
+in_rising ps n h = by_place (in_onto [] ps n h)
   where
-    by_place : (In (rising ps) n → In (literals ps) n) → (m ≡ n) ⊎ In (rising ps) n → (m ≡ n) ⊎ In (literals ps) n
-    by_place later (inl e) = inl e
-    by_place later (inr h) = inr (later h)
-in_rising (any ∷ ps) n h = in_rising ps n h
-in_rising (bind x ∷ ps) n h = in_rising ps n h
-in_rising (of_case c qs ∷ ps) n h = in_rising ps n h
-in_rising (of_truth b ∷ ps) n h = in_rising ps n h
+    by_place : In [] n ⊎ In (literals ps) n → In (literals ps) n
+    by_place (inl h) = absurd h
+    by_place (inr h) = h
 
 -- ---- a number that is not among given ones
 

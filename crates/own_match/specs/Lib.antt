@@ -1,3 +1,4 @@
 pub mod Values
 pub mod Forms
 pub mod Search
+pub mod View

@@ -43,14 +43,17 @@ abbrev pub narrowed : Head → List Bool → List TPat → List Bool
 narrowed h (l ∷ live) (p ∷ cells) = (l && accepts h p) ∷ narrowed h live cells
 narrowed h live cells = []
 
--- the literals of a column in rising order
+-- these literals and those of a column, in rising order
+abbrev pub rising_onto : List ℤ → List TPat → List ℤ
+rising_onto ns [] = ns
+rising_onto ns (of_number n ∷ ps) = rising_onto (insert_key int_cmp ns n) ps
+rising_onto ns (any ∷ ps) = rising_onto ns ps
+rising_onto ns (bind x ∷ ps) = rising_onto ns ps
+rising_onto ns (of_case c qs ∷ ps) = rising_onto ns ps
+rising_onto ns (of_truth b ∷ ps) = rising_onto ns ps
+
 abbrev pub rising : List TPat → List ℤ
-rising [] = []
-rising (of_number n ∷ ps) = insert_key int_cmp (rising ps) n
-rising (any ∷ ps) = rising ps
-rising (bind x ∷ ps) = rising ps
-rising (of_case c qs ∷ ps) = rising ps
-rising (of_truth b ∷ ps) = rising ps
+rising ps = rising_onto [] ps
 
 abbrev pub or_else : Option TPats → Option TPats → Option TPats
 or_else (Some fs) later = Some fs

@@ -1,4 +1,5 @@
 //! Whether patterns match every value of a type, and the first form of a value that none matches.
 #![tactic(auto)]
 
+mod column;
 mod head;
