@@ -3,3 +3,5 @@ pub mod Tuples
 pub mod Order
 pub mod Narrow
 pub mod Exact
+pub mod Columns
+pub mod Patterns

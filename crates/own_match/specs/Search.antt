@@ -43,6 +43,11 @@ abbrev pub narrowed : Head → List Bool → List TPat → List Bool
 narrowed h (l ∷ live) (p ∷ cells) = (l && accepts h p) ∷ narrowed h live cells
 narrowed h live cells = []
 
+-- a live pattern matches such values and no others
+abbrev pub is_mentioned : Head → List Bool → List TPat → Bool
+is_mentioned h (l ∷ live) (p ∷ cells) = (l && (accepts h p && not (accepts head.Other p))) || is_mentioned h live cells
+is_mentioned h live cells = false
+
 -- these literals and those of a column, in rising order
 abbrev pub rising_onto : List ℤ → List TPat → List ℤ
 rising_onto ns [] = ns
@@ -97,6 +102,16 @@ abbrev pub gap_where : Bool → List TPat → Later → List Bool → Option TPa
 gap_where false cells next live = None
 gap_where true cells next live = led any (next (narrowed head.Other live cells))
 
+-- what the patterns say at one place, whose type has that shape
+pub record Column : Type 0 where
+  pub shape : Shape
+  pub cells : List TPat
+
+-- the columns of the payloads of case k from number i on
+abbrev pub payload_columns : Shapes → ℕ → ℕ → List TPat → List Column
+payload_columns no_shapes k i cells = []
+payload_columns (shape.shape s ss) k i cells = record { shape = s; cells = inside k i cells } ∷ payload_columns ss k (suc i) cells
+
 -- the first forms that are missing at a column and at those that come next
 abbrev mutual
   pub gap : Shape → List TPat → Later → List Bool → Option TPats
@@ -117,10 +132,6 @@ abbrev mutual
   pub gap_in_payloads : Shapes → ℕ → ℕ → List TPat → Later → List Bool → Option TPats
   gap_in_payloads no_shapes k i cells next live = next live
   gap_in_payloads (shape.shape s ss) k i cells next live = gap s (inside k i cells) (gap_in_payloads ss k (suc i) cells next) live
-
-pub record Column : Type 0 where
-  pub shape : Shape
-  pub cells : List TPat
 
 abbrev pub any_live : List Bool → Bool
 any_live [] = false

@@ -1,0 +1,12 @@
+-- What a pattern of the code stands for, at each of its forms.
+use Rattle.std.proofs.Common.{◌≡◌, ℕ, ℤ, Bool, List, map, ap, ◌∙◌}
+use Rattle.own_tree.specs.declared.pattern.TPattern.{TPattern}
+use Rattle.own_tree.specs.declared.pattern.TPattern
+use Rattle.own_tree.specs.declared.pattern.TPattern.TheOpen.{TPattern-F}
+use Rattle.own_tree.specs.declared.pattern.TPattern.TheFolds.{fold-roll-TPattern}
+use Rattle.own_tree.specs.TypedSource.{TPat, of_case}
+use Rattle.own_tree.specs.TypedView.{pats_of, pattern_step, pattern_view}
+
+pub case_view : (c : ℕ) (ps : List TPattern) → pattern_view (TPattern.TheVariants.Case c ps) ≡ of_case c (pats_of (map pattern_view ps))
+unfolding TPattern.roll-TPattern denote.Hole.Carrier.roll
+case_view c ps = fold-roll-TPattern TPat pattern_step (TPattern-F.Case c ps)
