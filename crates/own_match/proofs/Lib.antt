@@ -5,3 +5,4 @@ pub mod Narrow
 pub mod Exact
 pub mod Columns
 pub mod Patterns
+pub mod Inhabiting

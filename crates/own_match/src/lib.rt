@@ -3,3 +3,4 @@
 
 mod column;
 mod head;
+mod inhabited;
