@@ -6,3 +6,4 @@ pub mod Exact
 pub mod Columns
 pub mod Patterns
 pub mod Inhabiting
+pub mod Covered

@@ -3,3 +3,4 @@ pub mod Forms
 pub mod Search
 pub mod View
 pub mod Inhabited
+pub mod Weights

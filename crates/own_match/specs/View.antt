@@ -1,10 +1,13 @@
 -- What the code's columns stand for.
-use Rattle.std.specs.Prelude.{List, map, Option, Some, None}
+use Rattle.std.specs.Prelude.{List, map, Option, Some, None, Vec}
+use Rattle.std.specs.List.{AllByRecursion}
 use Rattle.std.specs.Borrow.{Bor}
 use Rattle.own_tree.specs.declared.pattern.TPattern.{TPattern}
-use Rattle.own_tree.specs.TypedSource.{TPat, any}
-use Rattle.own_tree.specs.TypedView.{pattern_view}
+use Rattle.own_tree.specs.TypedSource.{TPat, any, TPats}
+use Rattle.own_tree.specs.TypedView.{pattern_view, pats_of}
 use Rattle.own_tree.specs.declared.place.Ty.{Ty}
+use Rattle.own_table.specs.declared.table.TypeTable.{TypeTable}
+use Rattle.own_table.specs.Table.{IsTypeIn}
 use Rattle.own_table.specs.Types.{Shape}
 use Rattle.own_match.specs.declared.column.Column.{Column as Held}
 use Rattle.own_match.specs.Search.{Column}
@@ -22,3 +25,16 @@ column_held shape c = record { shape = shape c.ty; cells = said_all c.cells.item
 
 abbrev pub columns_held : (Ty → Shape) → List Held → List Column
 columns_held shape cs = map (column_held shape) cs
+
+-- columns that are lent one by one
+abbrev pub todo_held : (Ty → Shape) → List (Bor Held) → List Column
+todo_held shape cs = map (λ c. column_held shape c.now) cs
+
+-- forms that were found
+abbrev pub forms_held : {Z : Type 0} → Option (Vec TPattern Z) → Option TPats
+forms_held None = None
+forms_held (Some fs) = Some (pats_of (map pattern_view fs.items))
+
+-- each column is of a type of the table
+abbrev pub AreTyped : TypeTable → List (Bor Held) → Type 0
+AreTyped table cs = AllByRecursion (λ c. IsTypeIn table c.now.ty) cs
