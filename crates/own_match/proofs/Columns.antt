@@ -1,5 +1,5 @@
 -- What the code's columns stand for, one cell after the other.
-use Rattle.std.proofs.Common.{◌≡◌, ℕ, zero, suc, ◌+◌, ◌<◌, ℤ, Bool, true, false, not, ◌&&◌, ◌||◌, ◌==◌, if◌then◌else◌, List, [], ◌∷◌, ◌++◌, map, drop, length, get_or, Option, Some, None, option_map, option_copied, slice_get, ◌⊎◌, inl, inr, refl, sym, ap, ◌∙◌, subst, arith, int_cmp, eq-eqb, drop-cons, add-one, append_assoc, append-nil}
+use Rattle.std.proofs.Common.{◌≡◌, ℕ, zero, suc, ◌+◌, ◌<◌, ℤ, Bool, true, false, not, ◌&&◌, ◌||◌, ◌==◌, if◌then◌else◌, List, [], ◌∷◌, ◌++◌, map, drop, length, get_or, Option, Some, None, option_map, option_copied, slice_get, ◌⊎◌, inl, inr, refl, sym, ap, ◌∙◌, subst, arith, int_cmp, eq-eqb, drop-cons, add-one, append_assoc, append-nil, take, Result, Ok, Err, IfOk}
 use Rattle.std.proofs.lemmas.Option.{same_Some, none-some}
 use Rattle.std.specs.Borrow.{Bor}
 use Rattle.std.specs.BTreeSet.{insert_key}
@@ -8,7 +8,9 @@ use Rattle.own_tree.specs.TypedSource.{TPat, any, bind, of_case, of_number, of_t
 use Rattle.own_tree.specs.TypedView.{pats_of, pattern_view}
 use Rattle.own_match.specs.Forms.{part_at, part, inside}
 use Rattle.own_match.specs.declared.head.Head.{Head}
-use Rattle.own_match.specs.Search.{narrowed, is_mentioned}
+use Rattle.own_match.specs.Search.{narrowed, is_mentioned, front, back, gathered}
+use Rattle.own_match.proofs.Patterns.{case_view}
+use Rattle.own_tree.specs.declared.pattern.TPattern
 use Rattle.own_match.specs.View.{said, said_all}
 
 part_got : (r : Option (Bor TPattern)) (ps : List TPattern) (i : ℕ) → option_copied r ≡ slice_get ps i → said r ≡ part_at (pats_of (map pattern_view ps)) i
@@ -35,3 +37,25 @@ mentions_end h [] cells e = refl
 mentions_end h (l ∷ live) [] e = refl
 mentions_end h (l ∷ live) (p ∷ cells) (inl e) = absurd (omega (arith, e))
 mentions_end h (l ∷ live) (p ∷ cells) (inr e) = absurd (omega (arith, e))
+
+-- ---- the forms of a case's payloads, and the others
+
+pub front_taken : (n : ℕ) (xs : List TPattern) → front n (pats_of (map pattern_view xs)) ≡ pats_of (map pattern_view (take n xs))
+front_taken zero xs = refl
+front_taken (suc n) [] = refl
+front_taken (suc n) (x ∷ xs) = ap (pat (pattern_view x)) (front_taken n xs)
+
+pub back_left : (n : ℕ) (xs : List TPattern) → back n (pats_of (map pattern_view xs)) ≡ pats_of (map pattern_view (drop n xs))
+back_left zero xs = refl
+back_left (suc n) [] = refl
+back_left (suc n) (x ∷ xs) = back_left n xs
+
+pub on_ok : {A E : Type 0} (P Q : A → Type 0) → ((x : A) → P x → Q x) → (r : Result A E) → IfOk r P → IfOk r Q
+on_ok P Q f (Ok x) h = f x h
+on_ok P Q f (Err e) h = tt
+
+pub gathered_forms : (k n : ℕ) (xs taken rest : List TPattern) → taken ≡ take n xs → rest ≡ drop n xs
+    → Some (pat (pattern_view (TPattern.TheVariants.Case k taken)) (pats_of (map pattern_view rest))) ≡ gathered k n (Some (pats_of (map pattern_view xs)))
+gathered_forms k n xs taken rest e f =
+    ap (λ p. Some (pat p (pats_of (map pattern_view rest)))) (case_view k taken ∙ ap (λ ys. of_case k (pats_of (map pattern_view ys))) e ∙ ap (of_case k) (sym (front_taken n xs)))
+    ∙ ap (λ r. Some (pat (of_case k (front n (pats_of (map pattern_view xs)))) r)) (ap (λ ys. pats_of (map pattern_view ys)) f ∙ sym (back_left n xs))

@@ -325,6 +325,10 @@ mutual
   case_lives no_payloads = no_case_lives
   case_lives (payloads ss cases) = either_lives ss cases (all_inhabited ss) (one_inhabited cases) (all_live ss) (case_lives cases)
 
+pub no_values : (ss : Shapes) → all_inhabited ss ≡ false → (vs : Vals) → AreOf ss vs → ⊥
+unfolding AllLive
+no_values ss e = subst (λ b. AllLive ss b) e (all_live ss)
+
 -- ---- numbers
 
 abbrev InNumbers : List ℤ → TPats → Type 0

@@ -42,7 +42,7 @@ known_at (Some b) e = ap Some e
 
 -- ---- parts
 
-abbrev Parts : ℕ → List Ty → Type 0
+abbrev pub Parts : ℕ → List Ty → Type 0
 Parts count tys = AllByRecursion (λ ty. IsType count ty) tys
 
 part_type : (count : ℕ) (ty : Ty) → IsTrue (is_part count ty) → IsType count ty
@@ -62,10 +62,10 @@ each_field count [] all = tt
 each_field count (f ∷ fs) all =
     (part_type count f.ty (all f (0, omega arith, refl)), each_field count fs (λ g c. all g (suc c.0, omega (arith, c.1), c.2)))
 
-abbrev CaseParts : ℕ → List CaseInfo → Type 0
+abbrev pub CaseParts : ℕ → List CaseInfo → Type 0
 CaseParts count cs = AllByRecursion (λ c. Parts count c.payloads) cs
 
-each_case : (count : ℕ) (cs : List CaseInfo) → ((c : CaseInfo) → Contains cs c → (ty : Ty) → Contains c.payloads ty → IsTrue (is_part count ty)) → CaseParts count cs
+pub each_case : (count : ℕ) (cs : List CaseInfo) → ((c : CaseInfo) → Contains cs c → (ty : Ty) → Contains c.payloads ty → IsTrue (is_part count ty)) → CaseParts count cs
 each_case count [] all = tt
 each_case count (c ∷ cs) all =
     (each_type count c.payloads (all c (0, omega arith, refl)), each_case count cs (λ d h. all d (suc h.0, omega (arith, h.1), h.2)))

@@ -7,3 +7,5 @@ pub mod Columns
 pub mod Patterns
 pub mod Inhabiting
 pub mod Covered
+pub mod Steps
+pub mod Enums

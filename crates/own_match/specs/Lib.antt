@@ -4,3 +4,4 @@ pub mod Search
 pub mod View
 pub mod Inhabited
 pub mod Weights
+pub mod First

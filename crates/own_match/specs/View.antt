@@ -1,5 +1,5 @@
 -- What the code's columns stand for.
-use Rattle.std.specs.Prelude.{List, map, Option, Some, None, Vec}
+use Rattle.std.specs.Prelude.{◌≡◌, ℕ, true, slice_get, List, [], ◌∷◌, map, Option, Some, None, Vec}
 use Rattle.std.specs.List.{AllByRecursion}
 use Rattle.std.specs.Borrow.{Bor}
 use Rattle.own_tree.specs.declared.pattern.TPattern.{TPattern}
@@ -7,10 +7,12 @@ use Rattle.own_tree.specs.TypedSource.{TPat, any, TPats}
 use Rattle.own_tree.specs.TypedView.{pattern_view, pats_of}
 use Rattle.own_tree.specs.declared.place.Ty.{Ty}
 use Rattle.own_table.specs.declared.table.TypeTable.{TypeTable}
-use Rattle.own_table.specs.Table.{IsTypeIn}
+use Rattle.own_table.specs.declared.info.CaseInfo.{CaseInfo}
+use Rattle.own_table.specs.Table.{IsTypeIn, types_in}
 use Rattle.own_table.specs.Types.{Shape}
 use Rattle.own_match.specs.declared.column.Column.{Column as Held}
 use Rattle.own_match.specs.Search.{Column}
+use Rattle.own_match.specs.First.{form_before}
 
 -- what a pattern says at a place, where it says something
 abbrev pub said : Option (Bor TPattern) → TPat
@@ -38,3 +40,20 @@ forms_held (Some fs) = Some (pats_of (map pattern_view fs.items))
 -- each column is of a type of the table
 abbrev pub AreTyped : TypeTable → List (Bor Held) → Type 0
 AreTyped table cs = AllByRecursion (λ c. IsTypeIn table c.now.ty) cs
+
+-- it is that case of the enum
+abbrev pub IsCase : TypeTable → Ty → ℕ → CaseInfo → Type 0
+IsCase table ty k c = ((types_in table).is_enum ty ≡ true) × (slice_get ((types_in table).cases ty) k ≡ Some c)
+
+-- each of these types is one of the table
+abbrev pub AreTypes : TypeTable → List Ty → Type 0
+AreTypes table tys = AllByRecursion (λ ty. IsTypeIn table ty) tys
+
+abbrev pub form_held : Option TPattern → Option TPat
+form_held None = None
+form_held (Some f) = Some (pattern_view f)
+
+-- forms that were found, before those that follow
+abbrev pub forms_and : List TPattern → Option TPats → Option TPats
+forms_and [] later = later
+forms_and (f ∷ fs) later = form_before (Some (pattern_view f)) (forms_and fs later)

@@ -1,6 +1,6 @@
 //! What each pattern of a list says at one place of a value.
 
-ghost use Rattle.std.specs.Prelude.{◌≡◌, IfOk};
+ghost use Rattle.std.specs.Prelude.{◌≡◌, IfOk, map};
 ghost use Rattle.own_table.specs.Table.{shape_in_table};
 ghost use Rattle.own_table.specs.Types.{shapes_of};
 ghost use Rattle.own_tree.specs.TypedView.{pattern_view};
@@ -66,8 +66,9 @@ pub fn payload_columns<'p>(
     case: u32,
     cells: &[Option<&'p TPattern>],
 ) -> Result<Vec<Column<'p>>, AllocError>
-    ensures { IfOk result (λ columns. columns_held (shape_in_table table.now) columns.items
+    ensures held { IfOk result (λ columns. columns_held (shape_in_table table.now) columns.items
         ≡ payload_columns (shapes_of (shape_in_table table.now) types.now) case 0 (said_all cells.now)) }
+    ensures types { IfOk result (λ columns. map (λ c. c.ty) columns.items ≡ types.now) }
 {
     let mut columns = Vec::new(alloc);
     for (payload, ty) in types.iter().enumerate() {

@@ -4,3 +4,5 @@
 mod column;
 mod head;
 mod inhabited;
+mod found;
+mod search;
