@@ -9,3 +9,4 @@ pub mod Inhabiting
 pub mod Covered
 pub mod Steps
 pub mod Enums
+pub mod Taking

@@ -12,9 +12,9 @@ use Rattle.own_match.specs.Forms.{part, inside}
 use Rattle.own_match.specs.Search.{inhabited, all_inhabited, one_inhabited, accepts, narrowed, is_mentioned, rising, or_else, led, front, back, gathered, count, Later, gap_in_numbers, gap_in_truths, gap_where, gap, gap_in_cases, gap_in_payloads, Column, payload_columns, gap_columns}
 use Rattle.own_match.specs.First.{least_of, any_where, or_form, case_with, form_before, first_form, first_case, first_forms}
 use Rattle.own_match.specs.Weights.{weight, weights, most_weight, columns_weight}
-use Rattle.own_match.proofs.Tuples.{TupleOf, CellMatches, RowMatches, IsLive, Matched, before, join, tuple_front, column}
+use Rattle.own_match.proofs.Tuples.{TupleOf, CellMatches, RowMatches, IsLive, Matched, Forms, before, join, tuple_front, column}
 use Rattle.own_match.proofs.Narrow.{false_true, CellAccepts, narrowed_live, anything_matches}
-use Rattle.own_match.proofs.Exact.{no_values}
+use Rattle.own_match.proofs.Exact.{no_values, Gap, Exact, Everything, columns_exact}
 use Rattle.own_match.proofs.Covered.{Covered, none_covered, covered_none, others_accepted}
 
 -- ---- the payloads' columns are columns
@@ -254,3 +254,95 @@ mutual
   forms_none (shape.shape s ss) k i cells e =
       by_parts (inhabited s) (all_inhabited ss) e (λ a. ap (λ f. form_before f (first_forms ss k (suc i) cells)) (first_none s (inside k i cells) a))
         (λ b. ap (form_before (first_form s (inside k i cells))) (forms_none ss k (suc i) cells b) ∙ before_none (first_form s (inside k i cells)))
+
+-- ---- weights
+
+pub weight_positive : (s : Shape) → 1 ≤ weight s
+weight_positive shape.number = omega arith
+weight_positive shape.truth = omega arith
+weight_positive shape.no_value = omega arith
+weight_positive shape.closure = omega arith
+weight_positive (shape.struct h fields) = omega arith
+weight_positive (shape.enum h cases) = omega arith
+
+pub payloads_weight : (ss : Shapes) (k i : ℕ) (cells : List TPat) (cs : List Column) → columns_weight (payload_columns ss k i cells ++ cs) ≡ weights ss + columns_weight cs
+payloads_weight no_shapes k i cells cs = omega arith
+payloads_weight (shape.shape s ss) k i cells cs = omega (arith, payloads_weight ss k (suc i) cells cs)
+
+-- types with a value have a first form
+abbrev pub HasSome : {A : Type 0} → Option A → Type 0
+HasSome {A} o = (x : A) × (o ≡ Some x)
+
+both_some : (f : Option TPat) (gs : Option TPats) → HasSome f → HasSome gs → HasSome (form_before f gs)
+both_some f gs a b = (pat a.0 b.0, ap (λ x. form_before x gs) a.1 ∙ ap (form_before (Some a.0)) b.1)
+
+case_some : (k : ℕ) (gs : Option TPats) → HasSome gs → HasSome (case_with k gs)
+case_some k gs a = (of_case k a.0, ap (case_with k) a.1)
+
+or_some : (f g : Option TPat) → HasSome g → HasSome (or_form f g)
+or_some None g a = a
+or_some (Some f) g a = (f, refl)
+
+first_some_or : (f g : Option TPat) → HasSome f → HasSome (or_form f g)
+first_some_or f g a = (a.0, ap (λ x. or_form x g) a.1)
+
+by_both : {A : Type 0} (a b : Bool) → (a && b) ≡ true → (a ≡ true → b ≡ true → A) → A
+by_both true b e k = k refl e
+by_both false b e k = false_true e
+
+by_either : {A : Type 0} (a b : Bool) → (a || b) ≡ true → (a ≡ true → A) → (b ≡ true → A) → A
+by_either true b e j k = j refl
+by_either false b e j k = k e
+
+mutual
+  first_some : (s : Shape) (cells : List TPat) → inhabited s ≡ true → HasSome (first_form s cells)
+  first_some shape.number cells e = (least_of (rising cells), refl)
+  first_some shape.truth cells e = (of_truth false, refl)
+  first_some shape.no_value cells e = (any, refl)
+  first_some shape.closure cells e = (any, refl)
+  first_some (shape.struct h fields) cells e = (any, ap any_where e)
+  first_some (shape.enum h cases) cells e = some_case cases zero cells e
+
+  some_case : (cases : Payloads) (k : ℕ) (cells : List TPat) → one_inhabited cases ≡ true → HasSome (first_case cases k cells)
+  some_case no_payloads k cells e = false_true e
+  some_case (payloads ss cases) k cells e =
+      by_either (all_inhabited ss) (one_inhabited cases) e
+        (λ a. first_some_or (case_with k (first_forms ss k zero cells)) (first_case cases (suc k) cells) (case_some k (first_forms ss k zero cells) (forms_some ss k zero cells a)))
+        (λ b. or_some (case_with k (first_forms ss k zero cells)) (first_case cases (suc k) cells) (some_case cases (suc k) cells b))
+
+  pub forms_some : (ss : Shapes) (k i : ℕ) (cells : List TPat) → all_inhabited ss ≡ true → HasSome (first_forms ss k i cells)
+  forms_some no_shapes k i cells e = (no_pats, refl)
+  forms_some (shape.shape s ss) k i cells e =
+      by_both (inhabited s) (all_inhabited ss) e (λ a b. both_some (first_form s (inside k i cells)) (first_forms ss k (suc i) cells) (first_some s (inside k i cells) a) (forms_some ss k (suc i) cells b))
+
+-- a case with a value that no live pattern mentions gives the answer
+pub case_before_others : (k : ℕ) (ss : Shapes) (cells : List TPat) (next : Later) (live : List Bool) (others : TPats) (later : Option TPats)
+    → is_mentioned (head.Case k) live cells ≡ false → all_inhabited ss ≡ true → Some others ≡ next (narrowed head.Other live cells)
+    → or_else (gathered k (count ss) (gap_in_payloads ss k zero cells next (narrowed (head.Case k) live cells))) later ≡ form_before (case_with k (first_forms ss k zero cells)) (Some others)
+case_before_others k ss cells next live others later silent full e =
+    let r = case_some k (first_forms ss k zero cells) (forms_some ss k zero cells full) in
+    let found = ap (λ f. form_before f (Some others)) r.1 in
+    ap (λ x. or_else x later) (unmentioned_case k ss cells next live silent ∙ ap (form_before (case_with k (first_forms ss k zero cells))) (sym e) ∙ found) ∙ sym found
+
+-- ---- how many forms there are
+
+abbrev pub pat_count : TPats → ℕ
+pat_count no_pats = 0
+pat_count (pat f fs) = suc (pat_count fs)
+
+abbrev pub col_count : List Column → ℕ
+col_count [] = 0
+col_count (c ∷ cs) = suc (col_count cs)
+
+forms_count : (cs : List Column) (fs : TPats) → Forms cs fs → pat_count fs ≡ col_count cs
+forms_count [] no_pats h = refl
+forms_count [] (pat f fs) h = absurd h
+forms_count (c ∷ cs) no_pats h = absurd h
+forms_count (c ∷ cs) (pat f fs) h = ap suc (forms_count cs fs h.1)
+
+pub found_count : (cs : List Column) (live : List Bool) (fs : TPats) → gap_columns cs live ≡ Some fs → pat_count fs ≡ col_count cs
+found_count cs live fs e = let g : Gap Everything cs live fs = subst (λ r. Exact cs live r) e (columns_exact cs live) in forms_count cs fs g.forms
+
+pub payload_count : (ss : Shapes) (k i : ℕ) (cells : List TPat) (cs : List Column) → count ss ≤ col_count (payload_columns ss k i cells ++ cs)
+payload_count no_shapes k i cells cs = omega arith
+payload_count (shape.shape s ss) k i cells cs = omega (arith, payload_count ss k (suc i) cells cs)

@@ -2,7 +2,10 @@
 use Rattle.std.specs.Prelude.{ℕ, suc, ◌+◌, max, List, [], ◌∷◌}
 use Rattle.own_table.specs.Types.{Shape, Shapes, no_shapes, Payloads, no_payloads, payloads}
 use Rattle.own_table.specs.Types as shape
+use Rattle.own_tree.specs.declared.place.Ty.{Ty}
+use Rattle.own_match.specs.declared.column.Column.{Column as Held}
 use Rattle.own_match.specs.Search.{Column}
+use Rattle.own_match.specs.View.{columns_held}
 
 -- the most places that a form of the type has
 abbrev mutual
@@ -25,3 +28,7 @@ abbrev mutual
 abbrev pub columns_weight : List Column → ℕ
 columns_weight [] = 0
 columns_weight (c ∷ cs) = weight c.shape + columns_weight cs
+
+-- of a column of the code and those that come next
+abbrev pub weight_from : (Ty → Shape) → Held → List Held → ℕ
+weight_from shape_of c rest = weight (shape_of c.ty) + columns_weight (columns_held shape_of rest)
