@@ -10,3 +10,4 @@ pub mod Covered
 pub mod Steps
 pub mod Enums
 pub mod Taking
+pub mod Final

@@ -89,7 +89,7 @@ pub count_types : (shape_of : Ty → Shape) (tys : List Ty) → count (shapes_of
 count_types shape_of [] = refl
 count_types shape_of (ty ∷ tys) = omega (arith, count_types shape_of tys)
 
-pats_length : (fs : List TPattern) → pat_count (pats_of (map pattern_view fs)) ≡ length fs
+pub pats_length : (fs : List TPattern) → pat_count (pats_of (map pattern_view fs)) ≡ length fs
 pats_length [] = refl
 pats_length (f ∷ fs) = omega (arith, pats_length fs)
 

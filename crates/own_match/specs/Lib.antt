@@ -5,3 +5,4 @@ pub mod View
 pub mod Inhabited
 pub mod Weights
 pub mod First
+pub mod Answers

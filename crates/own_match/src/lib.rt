@@ -2,7 +2,10 @@
 #![tactic(auto)]
 
 mod column;
+mod covering;
 mod head;
 mod inhabited;
 mod found;
 mod search;
+
+pub use covering::cover;
