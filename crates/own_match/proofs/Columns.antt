@@ -1,12 +1,11 @@
 -- What the code's columns stand for, one cell after the other.
-use Rattle.std.proofs.Common.{◌≡◌, ℕ, zero, suc, ◌+◌, ◌<◌, ℤ, Bool, true, false, not, ◌&&◌, ◌||◌, ◌==◌, if◌then◌else◌, List, [], ◌∷◌, ◌++◌, map, drop, length, get_or, Option, Some, None, option_map, option_copied, slice_get, ◌⊎◌, inl, inr, refl, sym, ap, ◌∙◌, subst, arith, int_cmp, eq-eqb, drop-cons, add-one, append_assoc, append-nil, take, Result, Ok, Err, IfOk}
+use Rattle.std.proofs.Common.{◌≡◌, ℕ, zero, suc, Bool, false, if◌then◌else◌, List, [], ◌∷◌, map, drop, length, Option, Some, None, option_copied, slice_get, ◌⊎◌, inl, inr, refl, sym, ap, ◌∙◌, arith, eq-eqb, take, Result, Ok, Err, IfOk}
 use Rattle.std.proofs.lemmas.Option.{same_Some, none-some}
 use Rattle.std.specs.Borrow.{Bor}
-use Rattle.std.specs.BTreeSet.{insert_key}
 use Rattle.own_tree.specs.declared.pattern.TPattern.{TPattern}
-use Rattle.own_tree.specs.TypedSource.{TPat, any, bind, of_case, of_number, of_truth, TPats, no_pats, pat}
+use Rattle.own_tree.specs.TypedSource.{any, of_case, pat}
 use Rattle.own_tree.specs.TypedView.{pats_of, pattern_view}
-use Rattle.own_match.specs.Forms.{part_at, part, inside}
+use Rattle.own_match.specs.Forms.{part_at, part}
 use Rattle.own_match.specs.declared.head.Head.{Head}
 use Rattle.own_match.specs.Search.{narrowed, is_mentioned, front, back, gathered}
 use Rattle.own_match.proofs.Patterns.{case_view}

@@ -1,5 +1,5 @@
 -- A search finds nothing exactly where every tuple of values is matched, which is all that its short cuts need.
-use Rattle.std.proofs.Common.{◌≡◌, ℕ, zero, suc, ◌+◌, ◌<◌, ◌⊎◌, ℤ, Bool, true, false, not, ◌&&◌, ◌||◌, List, [], ◌∷◌, ◌++◌, map, Option, Some, None, slice_get, inl, inr, refl, sym, ap, ◌∙◌, subst, Contains, arith, int_eq}
+use Rattle.std.proofs.Common.{◌≡◌, ℕ, zero, suc, ◌⊎◌, ℤ, Bool, true, false, not, ◌&&◌, ◌||◌, List, [], ◌∷◌, Option, Some, None, slice_get, inl, inr, refl, sym, ap, ◌∙◌, subst, int_eq}
 use Rattle.std.specs.Cmp.{signed_Decides}
 use Rattle.std.proofs.lemmas.Option.{same_Some, none-some}
 use Rattle.own_tree.specs.TypedSource.{TPat, any, bind, of_case, of_number, of_truth, TPats, no_pats, pat}
@@ -7,13 +7,13 @@ use Rattle.own_table.specs.Types.{TypeHead, Shape, Shapes, no_shapes, Payloads, 
 use Rattle.own_table.specs.Types as shape
 use Rattle.own_match.specs.declared.head.Head.{Head}
 use Rattle.own_match.specs.declared.head.Head.TheVariants as head
-use Rattle.own_match.specs.Values.{Val, int, bool, opaque, struct, variant, Vals, no_vals, val, IsOf, IsOfCase, AreOf, Matches}
+use Rattle.own_match.specs.Values.{Val, int, bool, opaque, struct, variant, Vals, no_vals, val, IsOf, IsOfCase, AreOf}
 use Rattle.own_match.specs.Forms.{inside, literals, IsForm, IsFormOfCase, AreForms, StandsFor, AllStandFor}
-use Rattle.own_match.specs.Search.{inhabited, all_inhabited, accepts, narrowed, is_mentioned, or_else, led, gathered, count, Later, gap, gap_in_payloads, Column, payload_columns, gap_columns}
+use Rattle.own_match.specs.Search.{accepts, narrowed, is_mentioned, Column, gap_columns}
 use Rattle.own_match.proofs.Order.{In, contains_in, in_contains}
-use Rattle.own_match.proofs.Tuples.{TupleOf, Forms, Stand, CellMatches, RowMatches, IsLive, Matched, column, before}
+use Rattle.own_match.proofs.Tuples.{TupleOf, Forms, Stand, RowMatches, IsLive, Matched}
 use Rattle.own_match.proofs.Narrow.{false_true, CellAccepts, narrowed_live, live_narrowed, anything_matches}
-use Rattle.own_match.proofs.Exact.{AllMatched, Gap, Good, Exact, columns_exact}
+use Rattle.own_match.proofs.Exact.{Good, Exact, columns_exact}
 
 -- ---- each value has a form
 

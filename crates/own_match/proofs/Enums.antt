@@ -1,23 +1,21 @@
 -- The shape of a type of the table, as the code reads it from the table.
-use Rattle.std.proofs.Common.{◌≡◌, ℕ, zero, suc, ◌+◌, ◌<◌, ◌≤◌, max, Bool, true, false, ◌||◌, ◌&&◌, List, [], ◌∷◌, ◌++◌, length, map, drop, slice_get, Option, Some, None, Contains, refl, sym, ap, ◌∙◌, subst, arith, unwrap_or, get_or, option_map, add-one}
-use Rattle.std.specs.List.{AllByRecursion, list_all}
+use Rattle.std.proofs.Common.{◌≡◌, ℕ, zero, suc, ◌+◌, ◌<◌, ◌≤◌, max, Bool, true, false, ◌&&◌, List, [], ◌∷◌, ◌++◌, length, map, drop, slice_get, Option, Some, None, refl, sym, ap, ◌∙◌, subst, arith, unwrap_or, get_or, option_map, add-one}
 use Rattle.std.proofs.lemmas.Option.{same_Some, none-some, slice_get-get_or, slice_get-map}
 use Rattle.own_tree.specs.declared.pattern.TPattern.{TPattern}
 use Rattle.own_tree.specs.declared.place.Ty.{Ty}
 use Rattle.own_tree.specs.declared.place.Ty.TheVariants as type
-use Rattle.own_tree.specs.TypedSource.{TPat, any, of_case, TPats, no_pats, pat}
+use Rattle.own_tree.specs.TypedSource.{TPat, TPats, no_pats}
 use Rattle.own_tree.specs.TypedView.{pats_of, pattern_view}
 use Rattle.own_table.specs.declared.info.CaseInfo.{CaseInfo}
-use Rattle.own_table.specs.declared.info.FieldInfo.{FieldInfo}
 use Rattle.own_table.specs.declared.table.TypeTable.{TypeTable}
 use Rattle.own_table.specs.Types.{TypeHead, Shape, Shapes, no_shapes, Payloads, no_payloads, payloads, shapes_of, payloads_of, field_types, case_types, IsType}
 use Rattle.own_table.specs.Types as shape
 use Rattle.own_table.specs.Table.{types_in, shape_in_table, IsTypeIn, AreWhole}
 use Rattle.own_table.proofs.Whole.{tables_are_whole}
 use Rattle.own_match.specs.Inhabited.{has_value, all_have_values, AreInhabited}
-use Rattle.own_match.specs.Search.{inhabited, all_inhabited, Later, Column, payload_columns, gap, gap_in_cases, gap_where}
+use Rattle.own_match.specs.Search.{inhabited, all_inhabited, Later, payload_columns, gap, gap_in_cases, gap_where}
 use Rattle.own_match.specs.First.{any_where, form_before, or_form, case_with, first_form, first_case, first_forms, first_of_columns}
-use Rattle.own_match.specs.View.{AreTypes, IsCase, form_held, forms_and, said_all, columns_held}
+use Rattle.own_match.specs.View.{AreTypes, IsCase, forms_and, said_all, columns_held}
 use Rattle.own_match.specs.declared.column.Column.{Column as Held}
 use Rattle.own_match.specs.Weights.{weight, weights, most_weight}
 use Rattle.own_match.proofs.Inhabiting.{each_case, CaseParts}

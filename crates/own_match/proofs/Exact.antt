@@ -1,5 +1,5 @@
 -- The search is exact: it gives the first forms that no live pattern matches, and none where there are no such.
-use Rattle.std.proofs.Common.{◌≡◌, ℕ, zero, suc, ◌+◌, ◌<◌, ◌⊎◌, ◌≤◌, ℤ, pos, negsuc, ◌<ℤ◌, Bool, true, false, ◌||◌, ◌&&◌, List, [], ◌∷◌, map, Option, Some, None, slice_get, if◌then◌else◌, inl, inr, refl, sym, ap, ◌∙◌, subst, Contains, arith, ◌-◌, eq-or-lt_of_le, zero-add, add-zero}
+use Rattle.std.proofs.Common.{◌≡◌, ℕ, zero, suc, ◌+◌, ◌<◌, ◌⊎◌, ◌≤◌, ℤ, pos, ◌<ℤ◌, Bool, true, false, ◌||◌, ◌&&◌, List, [], ◌∷◌, Option, Some, None, if◌then◌else◌, inl, inr, refl, sym, ap, ◌∙◌, subst, arith, ◌-◌, eq-or-lt_of_le, zero-add, add-zero}
 use Rattle.std.proofs.lemmas.Option.{same_Some, none-some}
 use Rattle.std.specs.Cmp.{int_chain}
 use Rattle.std.specs.Int.Signed.{<ℤ_irrefl}
@@ -8,11 +8,11 @@ use Rattle.own_table.specs.Types.{TypeHead, Shape, Shapes, no_shapes, Payloads, 
 use Rattle.own_table.specs.Types as shape
 use Rattle.own_match.specs.declared.head.Head.{Head}
 use Rattle.own_match.specs.declared.head.Head.TheVariants as head
-use Rattle.own_match.specs.Values.{Val, int, bool, opaque, struct, variant, Vals, no_vals, val, IsOf, IsOfCase, AreOf, Matches, AllMatch}
+use Rattle.own_match.specs.Values.{Val, int, bool, opaque, struct, variant, Vals, no_vals, val, IsOf, IsOfCase, AreOf, Matches}
 use Rattle.own_match.specs.Forms.{inside, literals, IsForm, IsFormOfCase, AreForms, StandsFor, AllStandFor, ComesBefore, AllComeBefore}
-use Rattle.own_match.specs.Search.{inhabited, all_inhabited, one_inhabited, accepts, narrowed, rising, or_else, led, front, back, gathered, count, Later, gap_in_numbers, gap_in_truths, gap_where, gap, gap_in_cases, gap_in_payloads, Column, any_live, gap_end, gap_columns}
+use Rattle.own_match.specs.Search.{inhabited, all_inhabited, one_inhabited, narrowed, rising, or_else, led, front, back, gathered, count, Later, gap_in_numbers, gap_in_truths, gap_where, gap, gap_in_cases, gap_in_payloads, Column, any_live, gap_end, gap_columns}
 use Rattle.own_match.proofs.Order.{In, contains_in, in_contains, Above, Rises, rising_rises, rising_in, in_rising, fresh, fresh_apart, apart_from_itself}
-use Rattle.own_match.proofs.Tuples.{TupleOf, Forms, Stand, CellMatches, RowMatches, IsLive, Matched, column, before, join, join_vals, front_vals, back_vals, join_front_back, tuple_front, tuple_join, forms_front, forms_join, stand_front, stand_join, PartsMatch, row_join, row_parts, join_before, join_same}
+use Rattle.own_match.proofs.Tuples.{TupleOf, Forms, Stand, CellMatches, IsLive, Matched, column, before, join, join_vals, front_vals, back_vals, join_front_back, tuple_front, tuple_join, forms_front, forms_join, stand_front, stand_join, row_join, row_parts, join_before, join_same}
 use Rattle.own_match.proofs.Narrow.{false_true, CellAccepts, narrowed_live, live_narrowed, number_matches, matches_number, truth_matches, matches_truth, anything_matches, matches_struct, matches_opaque, matches_other, case_parts, parts_case}
 
 -- ---- what is said of a search over some of the forms
@@ -359,7 +359,7 @@ module _ (cells : List TPat) (cs : List Column) (next : Later) (exact : (live : 
       → Good (InNumbers ns) (column shape.number cells ∷ cs) live (gap_in_numbers ns cells next live)
   good_numbers [] rises known =
       good_as (StartsWith any) (InNumbers []) (column shape.number cells ∷ cs) live (led any (next (narrowed head.Other live cells)))
-        (good_led shape.number cells cs live head.Other any (other_leads cells) (next (narrowed head.Other live cells)) (exact (narrowed head.Other live cells))) into from
+      (good_led shape.number cells cs live head.Other any (other_leads cells) (next (narrowed head.Other live cells)) (exact (narrowed head.Other live cells))) into from
     where
       into : (f : TPats) → StartsWith any f → InNumbers [] f
       into no_pats e = e
@@ -371,9 +371,9 @@ module _ (cells : List TPat) (cs : List Column) (next : Later) (exact : (live : 
       from (pat f fs) forms (inr e) = e
   good_numbers (n ∷ ns) rises known =
       good_as (λ f. StartsWith (of_number n) f ⊎ InNumbers ns f) (InNumbers (n ∷ ns)) (column shape.number cells ∷ cs) live (gap_in_numbers (n ∷ ns) cells next live)
-        (good_or_else (StartsWith (of_number n)) (InNumbers ns) (column shape.number cells ∷ cs) live (led (of_number n) (next (narrowed (head.Number n) live cells))) (gap_in_numbers ns cells next live)
-          (good_led shape.number cells cs live (head.Number n) (of_number n) (literal_leads cells n (known n (inl refl))) (next (narrowed (head.Number n) live cells)) (exact (narrowed (head.Number n) live cells)))
-          (good_numbers ns rises.1 (λ m i. known m (inr i))) apart) into from
+      (good_or_else (StartsWith (of_number n)) (InNumbers ns) (column shape.number cells ∷ cs) live (led (of_number n) (next (narrowed (head.Number n) live cells))) (gap_in_numbers ns cells next live)
+      (good_led shape.number cells cs live (head.Number n) (of_number n) (literal_leads cells n (known n (inl refl))) (next (narrowed (head.Number n) live cells)) (exact (narrowed (head.Number n) live cells)))
+      (good_numbers ns rises.1 (λ m i. known m (inr i))) apart) into from
     where
       apart : (f g : TPats) → StartsWith (of_number n) f → InNumbers ns g → AllComeBefore g f → ⊥
       apart no_pats g e h earlier = e
@@ -397,7 +397,7 @@ module _ (cells : List TPat) (cs : List Column) (next : Later) (exact : (live : 
   number_exact : Exact (column shape.number cells ∷ cs) live (gap_in_numbers (rising cells) cells next live)
   number_exact =
       good_as (InNumbers (rising cells)) Everything (column shape.number cells ∷ cs) live (gap_in_numbers (rising cells) cells next live)
-        (good_numbers (rising cells) (rising_rises cells) (in_rising cells)) (λ f e. tt) from
+      (good_numbers (rising cells) (rising_rises cells) (in_rising cells)) (λ f e. tt) from
     where
       from : (f : TPats) → Forms (column shape.number cells ∷ cs) f → Unit {0} → InNumbers (rising cells) f
       from no_pats forms e = forms
@@ -410,8 +410,8 @@ module _ (cells : List TPat) (cs : List Column) (next : Later) (exact : (live : 
   truth_exact : Exact (column shape.truth cells ∷ cs) live (gap_in_truths cells next live)
   truth_exact =
       good_as (λ f. StartsWith (of_truth false) f ⊎ StartsWith (of_truth true) f) Everything (column shape.truth cells ∷ cs) live (gap_in_truths cells next live)
-        (good_or_else (StartsWith (of_truth false)) (StartsWith (of_truth true)) (column shape.truth cells ∷ cs) live (led (of_truth false) (next (narrowed (head.Truth false) live cells))) (led (of_truth true) (next (narrowed (head.Truth true) live cells)))
-          (one_truth false) (one_truth true) apart) (λ f e. tt) from
+      (good_or_else (StartsWith (of_truth false)) (StartsWith (of_truth true)) (column shape.truth cells ∷ cs) live (led (of_truth false) (next (narrowed (head.Truth false) live cells))) (led (of_truth true) (next (narrowed (head.Truth true) live cells)))
+      (one_truth false) (one_truth true) apart) (λ f e. tt) from
     where
       one_truth : (b : Bool) → Good (StartsWith (of_truth b)) (column shape.truth cells ∷ cs) live (led (of_truth b) (next (narrowed (head.Truth b) live cells)))
       one_truth b = good_led shape.truth cells cs live (head.Truth b) (of_truth b) (truth_leads cells b) (next (narrowed (head.Truth b) live cells)) (exact (narrowed (head.Truth b) live cells))
@@ -444,7 +444,7 @@ module _ (s : Shape) (cells : List TPat) (cs : List Column) (next : Later) (exac
   where_live : Leads s cells head.Other any → Exact (column s cells ∷ cs) live (gap_where true cells next live)
   where_live leads =
       good_as (StartsWith any) Everything (column s cells ∷ cs) live (gap_where true cells next live)
-        (good_led s cells cs live head.Other any leads (next (narrowed head.Other live cells)) (exact (narrowed head.Other live cells))) (λ f e. tt) from
+      (good_led s cells cs live head.Other any leads (next (narrowed head.Other live cells)) (exact (narrowed head.Other live cells))) (λ f e. tt) from
     where
       from : (f : TPats) → Forms (column s cells ∷ cs) f → Unit {0} → StartsWith any f
       from no_pats forms e = forms
@@ -566,9 +566,11 @@ module _ (h : TypeHead) (all : Payloads) (cells : List TPat) (cs : List Column) 
   good_gathered (Some fs) a = record {
     one_of = (front (count ss) fs, refl);
     forms = (at_forms all k k cells (front (count ss) fs) (subst (λ o. FormsAt o k cells (front (count ss) fs)) (sym at_k) ours.0), ours.1);
-    some = (val (variant k (front_vals (count ss) a.some.0)) (back_vals (count ss) a.some.0),
+    some = (
+      val (variant k (front_vals (count ss) a.some.0)) (back_vals (count ss) a.some.0),
       (at_values all k (front_vals (count ss) a.some.0) (subst (λ o. ValuesAt o (front_vals (count ss) a.some.0)) (sym at_k) these.0), these.1),
-      ((refl, stands.0), stands.1));
+      ((refl, stands.0), stands.1),
+    );
     none = none;
     first = first;
   }
@@ -593,8 +595,8 @@ module _ (h : TypeHead) (all : Payloads) (cells : List TPat) (cs : List Column) 
           let are : AreOf ss us = subst (λ o. ValuesAt o us) at_k (values_at all k us (subst (λ x. IsOfCase all x us) same t.0)) in
           let p = case_parts cells m.0 k us (subst (λ x. CellMatches cells m.0 (variant x us)) same m.2.0) in
           a.none (join_vals us vs) (tuple_join ss k 0 cells cs us vs are t.1)
-            (subst (λ x. Stand (before ss k 0 cells cs) x (join_vals us vs)) (join_front_back (count ss) fs) (stand_join ss k 0 cells cs (front (count ss) fs) (back (count ss) fs) us vs ours.0 st.0.1 st.1))
-            (m.0, live_narrowed (head.Case k) live cells m.0 m.1 p.0, row_join ss m.0 k 0 cells cs us vs are p.1 m.2.1)
+          (subst (λ x. Stand (before ss k 0 cells cs) x (join_vals us vs)) (join_front_back (count ss) fs) (stand_join ss k 0 cells cs (front (count ss) fs) (back (count ss) fs) us vs ours.0 st.0.1 st.1))
+          (m.0, live_narrowed (head.Case k) live cells m.0 m.1 p.0, row_join ss m.0 k 0 cells cs us vs are p.1 m.2.1)
 
       earlier_parts : (gs hs : TPats) → AllComeBefore (pat (of_case k gs) hs) (pat (of_case k (front (count ss) fs)) (back (count ss) fs)) → AllComeBefore (join gs hs) fs
       earlier_parts gs hs (inl (inl l)) = absurd (omega (arith, l))
@@ -602,7 +604,7 @@ module _ (h : TypeHead) (all : Payloads) (cells : List TPat) (cs : List Column) 
           subst (λ x. AllComeBefore (join gs hs) x) (join_front_back (count ss) fs) (join_before gs (front (count ss) fs) hs (back (count ss) fs) e.1)
       earlier_parts gs hs (inr e) =
           subst (λ x. AllComeBefore (join gs hs) x) (join_front_back (count ss) fs)
-            (subst (λ x. AllComeBefore (join gs hs) (join x (back (count ss) fs))) (same_parts e.0) (join_same gs hs (back (count ss) fs) e.1))
+          (subst (λ x. AllComeBefore (join gs hs) (join x (back (count ss) fs))) (same_parts e.0) (join_same gs hs (back (count ss) fs) e.1))
         where
           same_parts : of_case k gs ≡ of_case k (front (count ss) fs) → gs ≡ front (count ss) fs
           same_parts e = cc
@@ -613,7 +615,7 @@ module _ (h : TypeHead) (all : Payloads) (cells : List TPat) (cs : List Column) 
           let parts = of_this_case g gs e.0 forms.0 e.1 in
           let sooner = earlier_parts e.0 gs (subst (λ x. AllComeBefore (pat x gs) (pat (of_case k (front (count ss) fs)) (back (count ss) fs))) e.1 earlier) in
           subst (λ x. AllMatched (first_column ∷ cs) live (pat x gs)) (sym e.1)
-            (case_matched e.0 gs (a.first (join e.0 gs) tt (forms_join ss k 0 cells cs e.0 gs parts forms.1) sooner) parts)
+          (case_matched e.0 gs (a.first (join e.0 gs) tt (forms_join ss k 0 cells cs e.0 gs parts forms.1) sooner) parts)
 
 -- ---- the whole search
 
@@ -636,7 +638,7 @@ module _ (h : TypeHead) (all : Payloads) (cells : List TPat) (cs : List Column) 
       → Good (FromCase (suc k)) (the_column ∷ cs) live s → Good (FromCase k) (the_column ∷ cs) live (or_else (gathered k (count ss) r) s)
   good_later ss r s at_k a b =
       good_as (λ f. OfCase k f ⊎ FromCase (suc k) f) (FromCase k) (the_column ∷ cs) live (or_else (gathered k (count ss) r) s)
-        (good_or_else (OfCase k) (FromCase (suc k)) (the_column ∷ cs) live (gathered k (count ss) r) s (good_gathered h all cells cs live k ss at_k r a) b apart) into from
+      (good_or_else (OfCase k) (FromCase (suc k)) (the_column ∷ cs) live (gathered k (count ss) r) s (good_gathered h all cells cs live k ss at_k r a) b apart) into from
     where
       cases_same : (j : ℕ) (fs gs : TPats) → of_case j gs ≡ of_case k fs → j ≡ k
       cases_same j fs gs e = cc
@@ -696,9 +698,9 @@ mutual
   cases_exact no_payloads h all k cells cs next exact live same = λ gs e forms. absurd (past_all h all cells cs k same gs e forms)
   cases_exact (payloads ss cases) h all k cells cs next exact live same =
       good_later h all cells cs live k ss (gap_in_payloads ss k zero cells next (narrowed (head.Case k) live cells)) (gap_in_cases cases (suc k) cells next live)
-        (sym (ap (payload_at all) (add-zero k)) ∙ same zero)
-        (payloads_exact ss k zero cells cs next exact (narrowed (head.Case k) live cells))
-        (cases_exact cases h all (suc k) cells cs next exact live (payload_later all cases ss k same))
+      (sym (ap (payload_at all) (add-zero k)) ∙ same zero)
+      (payloads_exact ss k zero cells cs next exact (narrowed (head.Case k) live cells))
+      (cases_exact cases h all (suc k) cells cs next exact live (payload_later all cases ss k same))
 
   payloads_exact : (ss : Shapes) (k i : ℕ) (cells : List TPat) (cs : List Column) (next : Later) → ((live : List Bool) → Exact cs live (next live))
       → (live : List Bool) → Exact (before ss k i cells cs) live (gap_in_payloads ss k i cells next live)

@@ -1,16 +1,16 @@
 -- From the search at one column to what is said of the patterns.
-use Rattle.std.proofs.Common.{◌≡◌, ℕ, zero, suc, ◌<◌, ◌⊎◌, Bool, true, false, List, [], ◌∷◌, length, map, replicate, get_or, Option, Some, None, slice_get, ◌↔◌, Any, inl, inr, refl, sym, ap, ◌∙◌, subst, arith}
-use Rattle.std.proofs.lemmas.Option.{same_Some, none-some, slice_get_within, slice_get-get_or, get_or_from_slice_get}
+use Rattle.std.proofs.Common.{◌≡◌, ℕ, zero, suc, ◌<◌, Bool, true, List, [], ◌∷◌, length, map, replicate, Option, Some, None, slice_get, ◌↔◌, inl, refl, sym, ap, ◌∙◌, subst, arith}
+use Rattle.std.proofs.lemmas.Option.{slice_get_within, slice_get-get_or, get_or_from_slice_get}
 use Rattle.own_tree.specs.declared.pattern.Cover.TheVariants as cover
 use Rattle.own_tree.specs.declared.pattern.TPattern.{TPattern}
 use Rattle.own_tree.specs.TypedSource.{TPat, TPats, no_pats, pat}
 use Rattle.own_tree.specs.TypedView.{pats_of, pattern_view}
 use Rattle.own_table.specs.Types.{Shape}
-use Rattle.own_match.specs.Answers.{IsAll, OnMissing, single}
-use Rattle.own_match.specs.Values.{Val, Vals, no_vals, val, IsOf, Matches, IsCovered, Covers}
-use Rattle.own_match.specs.Forms.{IsForm, StandsFor, ComesBefore, IsMissing, IsFirst}
-use Rattle.own_match.specs.Search.{gap, gap_end, gap_columns, Column}
-use Rattle.own_match.proofs.Tuples.{TupleOf, Stand, Forms, Matched, column}
+use Rattle.own_match.specs.Answers.{IsAll, single}
+use Rattle.own_match.specs.Values.{Val, Vals, no_vals, val, IsOf, IsCovered, Covers}
+use Rattle.own_match.specs.Forms.{StandsFor, IsMissing, IsFirst}
+use Rattle.own_match.specs.Search.{gap, gap_end, Column}
+use Rattle.own_match.proofs.Tuples.{TupleOf, Stand, Matched, column}
 use Rattle.own_match.proofs.Exact.{Gap, Exact, Everything, columns_exact}
 use Rattle.own_match.proofs.Covered.{none_covered}
 use Rattle.own_match.proofs.Steps.{found_count}

@@ -1,6 +1,6 @@
 -- What is found out of the types that have a value is so, and is all once no more can be built.
-use Rattle.std.proofs.Common.{◌≡◌, ℕ, zero, suc, ◌+◌, ◌<◌, ◌≤◌, ◌⊎◌, Bool, true, false, not, ◌&&◌, ◌||◌, cond, if◌then◌else◌, List, [], ◌∷◌, length, map, set, get_or, Option, Some, None, slice_get, IsTrue, Contains, count_by, inl, inr, refl, sym, ap, ◌∙◌, subst, arith, unwrap_or, replicate, eq-or-lt_of_le, ltb-true}
-use Rattle.std.specs.List.{list_any, list_all, AllByRecursion}
+use Rattle.std.proofs.Common.{◌≡◌, ℕ, zero, suc, ◌+◌, ◌<◌, ◌≤◌, ◌⊎◌, Bool, true, false, ◌&&◌, ◌||◌, if◌then◌else◌, List, [], ◌∷◌, length, set, get_or, Option, Some, None, slice_get, IsTrue, Contains, inl, inr, refl, sym, ap, ◌∙◌, subst, arith, unwrap_or, replicate, eq-or-lt_of_le, ltb-true}
+use Rattle.std.specs.List.{AllByRecursion}
 use Rattle.std.proofs.lemmas.Option.{same_Some, none-some, slice_get-get_or}
 use Rattle.own_tree.specs.declared.place.Ty.{Ty}
 use Rattle.own_tree.specs.declared.place.Ty.TheVariants as type
@@ -100,8 +100,8 @@ module _ (table : TypeTable) where
     case_so [] e = e
     case_so (c ∷ cs) e =
         either (all_have_values known c.payloads) (one_has_values known cs) e
-          (λ a. or_front (all_inhabited (shapes_of shape_of c.payloads)) (one_inhabited (payloads_of shape_of (case_types cs))) (all_so c.payloads a))
-          (λ b. or_back (all_inhabited (shapes_of shape_of c.payloads)) (one_inhabited (payloads_of shape_of (case_types cs))) (case_so cs b))
+        (λ a. or_front (all_inhabited (shapes_of shape_of c.payloads)) (one_inhabited (payloads_of shape_of (case_types cs))) (all_so c.payloads a))
+        (λ b. or_back (all_inhabited (shapes_of shape_of c.payloads)) (one_inhabited (payloads_of shape_of (case_types cs))) (case_so cs b))
 
     pub built_so : (k : ℕ) → k < (types_in table).count → can_be_built (types_in table) known (type.Named k) ≡ true → inhabited (shape_of (type.Named k)) ≡ true
     built_so k l e = by_kind ((types_in table).is_enum (type.Named k)) refl
@@ -110,12 +110,12 @@ module _ (table : TypeTable) where
         by_kind true is =
             ap inhabited (whole.enum_shape k l is).1
             ∙ case_so ((types_in table).cases (type.Named k))
-              (sym (ap (λ b. if b then one_has_values known ((types_in table).cases (type.Named k)) else fields_have_values known ((types_in table).properties (type.Named k))) is) ∙ e)
+            (sym (ap (λ b. if b then one_has_values known ((types_in table).cases (type.Named k)) else fields_have_values known ((types_in table).properties (type.Named k))) is) ∙ e)
         by_kind false is =
             ap inhabited (whole.struct_shape k l is).1
             ∙ all_so (field_types ((types_in table).properties (type.Named k)))
-              (field_values known ((types_in table).properties (type.Named k))
-              ∙ sym (ap (λ b. if b then one_has_values known ((types_in table).cases (type.Named k)) else fields_have_values known ((types_in table).properties (type.Named k))) is) ∙ e)
+            (field_values known ((types_in table).properties (type.Named k))
+            ∙ sym (ap (λ b. if b then one_has_values known ((types_in table).cases (type.Named k)) else fields_have_values known ((types_in table).properties (type.Named k))) is) ∙ e)
 
   -- ---- what is so is known in the end
 
@@ -124,14 +124,14 @@ module _ (table : TypeTable) where
         → one_has_values known ((types_in table).cases (type.Named k)) ≡ true → has_value known (type.Named k) ≡ true
     built_enum k l is e =
         ap (λ o. unwrap_or o false)
-          (settled k l (ap (λ b. if b then one_has_values known ((types_in table).cases (type.Named k)) else fields_have_values known ((types_in table).properties (type.Named k))) is ∙ e))
+        (settled k l (ap (λ b. if b then one_has_values known ((types_in table).cases (type.Named k)) else fields_have_values known ((types_in table).properties (type.Named k))) is ∙ e))
 
     built_struct : (k : ℕ) → k < (types_in table).count → (types_in table).is_enum (type.Named k) ≡ false
         → all_have_values known (field_types ((types_in table).properties (type.Named k))) ≡ true → has_value known (type.Named k) ≡ true
     built_struct k l is e =
         ap (λ o. unwrap_or o false)
-          (settled k l (ap (λ b. if b then one_has_values known ((types_in table).cases (type.Named k)) else fields_have_values known ((types_in table).properties (type.Named k))) is
-            ∙ sym (field_values known ((types_in table).properties (type.Named k))) ∙ e))
+        (settled k l (ap (λ b. if b then one_has_values known ((types_in table).cases (type.Named k)) else fields_have_values known ((types_in table).properties (type.Named k))) is
+        ∙ sym (field_values known ((types_in table).properties (type.Named k))) ∙ e))
 
     -- a declared type is a struct or an enum
     abbrev Answer : ℕ → Shape → Type 0
@@ -167,8 +167,8 @@ module _ (table : TypeTable) where
         by_kind : StructOr k → has_value known (type.Named k) ≡ true
         by_kind (inl s) =
             built_struct k l s (parts (field_types ((types_in table).properties (type.Named k)))
-              (each_field (types_in table).count ((types_in table).properties (type.Named k)) (whole.field_part k l s))
-              (struct_fields (whole.struct_shape k l s).0 h (shapes_of shape_of (field_types ((types_in table).properties (type.Named k)))) ss (sym (whole.struct_shape k l s).1 ∙ is)))
+            (each_field (types_in table).count ((types_in table).properties (type.Named k)) (whole.field_part k l s))
+            (struct_fields (whole.struct_shape k l s).0 h (shapes_of shape_of (field_types ((types_in table).properties (type.Named k)))) ss (sym (whole.struct_shape k l s).1 ∙ is)))
         by_kind (inr e) = struct_enum h (whole.enum_shape k l e).0 ss (payloads_of shape_of (case_types ((types_in table).cases (type.Named k)))) (sym is ∙ (whole.enum_shape k l e).1)
 
     known_enum : (h : TypeHead) (ds : Payloads) (k : ℕ) → k < (types_in table).count → shape_of (type.Named k) ≡ shape.enum h ds
@@ -179,8 +179,8 @@ module _ (table : TypeTable) where
         by_kind (inl s) = struct_enum (whole.struct_shape k l s).0 h (shapes_of shape_of (field_types ((types_in table).properties (type.Named k)))) ds (sym (whole.struct_shape k l s).1 ∙ is)
         by_kind (inr e) =
             built_enum k l e (parts ((types_in table).cases (type.Named k))
-              (each_case (types_in table).count ((types_in table).cases (type.Named k)) (whole.payload_part k l e))
-              (enum_payloads (whole.enum_shape k l e).0 h (payloads_of shape_of (case_types ((types_in table).cases (type.Named k)))) ds (sym (whole.enum_shape k l e).1 ∙ is)))
+            (each_case (types_in table).count ((types_in table).cases (type.Named k)) (whole.payload_part k l e))
+            (enum_payloads (whole.enum_shape k l e).0 h (payloads_of shape_of (case_types ((types_in table).cases (type.Named k)))) ds (sym (whole.enum_shape k l e).1 ∙ is)))
 
     tail_of : (s t : Shape) (ss ts : Shapes) → shape.shape s ss ≡ shape.shape t ts → ss ≡ ts
     tail_of s t ss ts e = cc
@@ -222,24 +222,28 @@ module _ (table : TypeTable) where
         where
           not_struct : (h : TypeHead) (ss : Shapes) → shape.struct h ss ≡ shape.number → ⊥
           not_struct h ss e = cc
+
           not_enum : (h : TypeHead) (ds : Payloads) → shape.enum h ds ≡ shape.number → ⊥
           not_enum h ds e = cc
       so_known shape.truth k l is e = other_shape k l (λ h ss i. absurd (not_struct h ss (sym i ∙ is))) (λ h ds i. absurd (not_enum h ds (sym i ∙ is)))
         where
           not_struct : (h : TypeHead) (ss : Shapes) → shape.struct h ss ≡ shape.truth → ⊥
           not_struct h ss e = cc
+
           not_enum : (h : TypeHead) (ds : Payloads) → shape.enum h ds ≡ shape.truth → ⊥
           not_enum h ds e = cc
       so_known shape.no_value k l is e = other_shape k l (λ h ss i. absurd (not_struct h ss (sym i ∙ is))) (λ h ds i. absurd (not_enum h ds (sym i ∙ is)))
         where
           not_struct : (h : TypeHead) (ss : Shapes) → shape.struct h ss ≡ shape.no_value → ⊥
           not_struct h ss e = cc
+
           not_enum : (h : TypeHead) (ds : Payloads) → shape.enum h ds ≡ shape.no_value → ⊥
           not_enum h ds e = cc
       so_known shape.closure k l is e = other_shape k l (λ h ss i. absurd (not_struct h ss (sym i ∙ is))) (λ h ds i. absurd (not_enum h ds (sym i ∙ is)))
         where
           not_struct : (h : TypeHead) (ss : Shapes) → shape.struct h ss ≡ shape.closure → ⊥
           not_struct h ss e = cc
+
           not_enum : (h : TypeHead) (ds : Payloads) → shape.enum h ds ≡ shape.closure → ⊥
           not_enum h ds e = cc
       so_known (shape.struct h ss) k l is e = known_struct h ss k l is (λ tys parts same. all_known ss tys parts same e)
@@ -251,8 +255,8 @@ module _ (table : TypeTable) where
       all_known (shape.shape s ss) [] parts same e = some_none s ss same
       all_known (shape.shape s ss) (ty ∷ tys) parts same e =
           both (inhabited s) (all_inhabited ss) e (λ a b. and_true (has_value known ty) (all_have_values known tys)
-            (value_known ty parts.0 (λ k l is. so_known s k l (is ∙ head_of (shape_of ty) s (shapes_of shape_of tys) ss same) a))
-            (all_known ss tys parts.1 (tail_of (shape_of ty) s (shapes_of shape_of tys) ss same) b))
+          (value_known ty parts.0 (λ k l is. so_known s k l (is ∙ head_of (shape_of ty) s (shapes_of shape_of tys) ss same) a))
+          (all_known ss tys parts.1 (tail_of (shape_of ty) s (shapes_of shape_of tys) ss same) b))
         where
           value_known : (t : Ty) → IsType (types_in table).count t → ((k : ℕ) → k < (types_in table).count → shape_of (type.Named k) ≡ shape_of t → has_value known (type.Named k) ≡ true) → has_value known t ≡ true
           value_known type.Int h named = refl
@@ -266,10 +270,10 @@ module _ (table : TypeTable) where
       one_known (payloads ss ds) [] parts same e = no_cases ss ds (sym same)
       one_known (payloads ss ds) (c ∷ cs) parts same e =
           either (all_inhabited ss) (one_inhabited ds) e
-            (λ a. or_front (all_have_values known c.payloads) (one_has_values known cs)
-              (all_known ss c.payloads parts.0 (first_case (shapes_of shape_of c.payloads) ss (payloads_of shape_of (case_types cs)) ds same) a))
-            (λ b. or_back (all_have_values known c.payloads) (one_has_values known cs)
-              (one_known ds cs parts.1 (later_cases (shapes_of shape_of c.payloads) ss (payloads_of shape_of (case_types cs)) ds same) b))
+          (λ a. or_front (all_have_values known c.payloads) (one_has_values known cs)
+          (all_known ss c.payloads parts.0 (first_case (shapes_of shape_of c.payloads) ss (payloads_of shape_of (case_types cs)) ds same) a))
+          (λ b. or_back (all_have_values known c.payloads) (one_has_values known cs)
+          (one_known ds cs parts.1 (later_cases (shapes_of shape_of c.payloads) ss (payloads_of shape_of (case_types cs)) ds same) b))
 
   -- ---- both together
 

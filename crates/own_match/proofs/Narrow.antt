@@ -1,5 +1,5 @@
 -- Which patterns are still live once a value is known to begin in a certain way.
-use Rattle.std.proofs.Common.{◌≡◌, ℕ, zero, suc, ◌<◌, ◌⊎◌, ℤ, Bool, true, false, not, ◌&&◌, ◌==◌, List, [], ◌∷◌, map, Option, Some, None, option_map, slice_get, if◌then◌else◌, inl, inr, refl, sym, ap, ◌∙◌, subst, Contains, arith, int_cmp, int_eq, true≢false, eq-eqb, eqb-true}
+use Rattle.std.proofs.Common.{◌≡◌, ℕ, zero, suc, ℤ, Bool, true, false, not, ◌&&◌, ◌==◌, List, [], ◌∷◌, Some, option_map, slice_get, if◌then◌else◌, inl, inr, refl, sym, ap, ◌∙◌, subst, int_eq, true≢false, eq-eqb, eqb-true}
 use Rattle.std.proofs.lemmas.Option.{slice_get-map, same_Some, none-some}
 use Rattle.std.specs.Cmp.{signed_Decides}
 use Rattle.own_tree.specs.TypedSource.{TPat, any, bind, of_case, of_number, of_truth, TPats, no_pats, pat}

@@ -1,5 +1,5 @@
 -- Literals in rising order, and forms that come before one another.
-use Rattle.std.proofs.Common.{◌≡◌, ℕ, zero, suc, ◌+◌, ◌<◌, ◌≤◌, ◌⊎◌, ℤ, pos, negsuc, ◌<ℤ◌, Bool, true, false, List, [], ◌∷◌, length, get_or, inl, inr, refl, sym, ap, ◌∙◌, subst, Contains, arith, int_cmp, Ordering, Less, Equal, Greater}
+use Rattle.std.proofs.Common.{◌≡◌, ℕ, zero, suc, ◌+◌, ◌≤◌, ◌⊎◌, ℤ, pos, negsuc, ◌<ℤ◌, true, false, List, [], ◌∷◌, inl, inr, sym, ◌∙◌, subst, Contains, arith, int_cmp, Ordering, Less, Equal, Greater}
 use Rattle.std.specs.Ordering.{MatchOrdering, match_ordering}
 use Rattle.std.specs.BTreeSet.{insert_key}
 use Rattle.std.specs.Cmp.{int_ranks, int_chain}

@@ -1,5 +1,5 @@
 -- What a pattern of the code stands for, at each of its forms.
-use Rattle.std.proofs.Common.{◌≡◌, ℕ, ℤ, Bool, List, map, ap, ◌∙◌}
+use Rattle.std.proofs.Common.{◌≡◌, ℕ, ℤ, Bool, List, map}
 use Rattle.own_tree.specs.declared.pattern.TPattern.{TPattern}
 use Rattle.own_tree.specs.declared.pattern.TPattern
 use Rattle.own_tree.specs.declared.pattern.TPattern.TheOpen.{TPattern-F}

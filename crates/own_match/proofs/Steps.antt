@@ -1,5 +1,5 @@
 -- The steps of the search as the code takes them.
-use Rattle.std.proofs.Common.{◌≡◌, ℕ, zero, suc, ◌+◌, ◌<◌, ◌≤◌, max, ◌⊎◌, ℤ, Bool, true, false, not, ◌&&◌, ◌||◌, List, [], ◌∷◌, ◌++◌, map, length, Option, Some, None, slice_get, inl, inr, refl, sym, ap, ◌∙◌, subst, Contains, arith}
+use Rattle.std.proofs.Common.{◌≡◌, ℕ, zero, suc, ◌+◌, ◌≤◌, ℤ, Bool, true, false, not, ◌&&◌, ◌||◌, List, [], ◌∷◌, ◌++◌, length, Option, Some, None, refl, sym, ap, ◌∙◌, subst, arith}
 use mathlib.Core.Path.{fun_ext}
 use Rattle.std.proofs.lemmas.Option.{same_Some, none-some}
 use Rattle.own_tree.specs.TypedSource.{TPat, any, bind, of_case, of_number, of_truth, TPats, no_pats, pat}
@@ -7,12 +7,12 @@ use Rattle.own_table.specs.Types.{TypeHead, Shape, Shapes, no_shapes, Payloads, 
 use Rattle.own_table.specs.Types as shape
 use Rattle.own_match.specs.declared.head.Head.{Head}
 use Rattle.own_match.specs.declared.head.Head.TheVariants as head
-use Rattle.own_match.specs.Values.{Val, Vals, no_vals, val}
+use Rattle.own_match.specs.Values.{no_vals, val}
 use Rattle.own_match.specs.Forms.{part, inside}
 use Rattle.own_match.specs.Search.{inhabited, all_inhabited, one_inhabited, accepts, narrowed, is_mentioned, rising, or_else, led, front, back, gathered, count, Later, gap_in_numbers, gap_in_truths, gap_where, gap, gap_in_cases, gap_in_payloads, Column, payload_columns, gap_columns}
 use Rattle.own_match.specs.First.{least_of, any_where, or_form, case_with, form_before, first_form, first_case, first_forms}
-use Rattle.own_match.specs.Weights.{weight, weights, most_weight, columns_weight}
-use Rattle.own_match.proofs.Tuples.{TupleOf, CellMatches, RowMatches, IsLive, Matched, Forms, before, join, tuple_front, column}
+use Rattle.own_match.specs.Weights.{weight, weights, columns_weight}
+use Rattle.own_match.proofs.Tuples.{IsLive, Forms, before, join, tuple_front, column}
 use Rattle.own_match.proofs.Narrow.{false_true, CellAccepts, narrowed_live, anything_matches}
 use Rattle.own_match.proofs.Exact.{no_values, Gap, Exact, Everything, columns_exact}
 use Rattle.own_match.proofs.Covered.{Covered, none_covered, covered_none, others_accepted}
@@ -253,7 +253,7 @@ mutual
   forms_none no_shapes k i cells e = false_true (sym e)
   forms_none (shape.shape s ss) k i cells e =
       by_parts (inhabited s) (all_inhabited ss) e (λ a. ap (λ f. form_before f (first_forms ss k (suc i) cells)) (first_none s (inside k i cells) a))
-        (λ b. ap (form_before (first_form s (inside k i cells))) (forms_none ss k (suc i) cells b) ∙ before_none (first_form s (inside k i cells)))
+      (λ b. ap (form_before (first_form s (inside k i cells))) (forms_none ss k (suc i) cells b) ∙ before_none (first_form s (inside k i cells)))
 
 -- ---- weights
 
@@ -307,8 +307,8 @@ mutual
   some_case no_payloads k cells e = false_true e
   some_case (payloads ss cases) k cells e =
       by_either (all_inhabited ss) (one_inhabited cases) e
-        (λ a. first_some_or (case_with k (first_forms ss k zero cells)) (first_case cases (suc k) cells) (case_some k (first_forms ss k zero cells) (forms_some ss k zero cells a)))
-        (λ b. or_some (case_with k (first_forms ss k zero cells)) (first_case cases (suc k) cells) (some_case cases (suc k) cells b))
+      (λ a. first_some_or (case_with k (first_forms ss k zero cells)) (first_case cases (suc k) cells) (case_some k (first_forms ss k zero cells) (forms_some ss k zero cells a)))
+      (λ b. or_some (case_with k (first_forms ss k zero cells)) (first_case cases (suc k) cells) (some_case cases (suc k) cells b))
 
   pub forms_some : (ss : Shapes) (k i : ℕ) (cells : List TPat) → all_inhabited ss ≡ true → HasSome (first_forms ss k i cells)
   forms_some no_shapes k i cells e = (no_pats, refl)

@@ -1,19 +1,18 @@
 -- The search of the code, from column to column.
-use Rattle.std.proofs.Common.{◌≡◌, ℕ, zero, suc, ◌+◌, ◌*◌, ◌<◌, ◌≤◌, ℤ, Bool, true, false, List, [], ◌∷◌, ◌++◌, length, map, drop, slice_get, Option, Some, None, refl, sym, ap, ◌∙◌, subst, arith, add-one}
-use Rattle.std.proofs.lemmas.Option.{same_Some, none-some}
+use Rattle.std.proofs.Common.{◌≡◌, ℕ, ◌+◌, ◌≤◌, ℤ, Bool, true, false, List, [], ◌∷◌, ◌++◌, length, map, drop, slice_get, Option, Some, None, refl, sym, ap, ◌∙◌, subst, arith, add-one}
 use Rattle.own_tree.specs.declared.pattern.TPattern.{TPattern}
 use Rattle.own_tree.specs.declared.place.Ty.{Ty}
-use Rattle.own_tree.specs.TypedSource.{TPat, any, of_case, of_number, of_truth, TPats, no_pats, pat}
+use Rattle.own_tree.specs.TypedSource.{TPat, any, of_number, of_truth, TPats, pat}
 use Rattle.own_tree.specs.TypedView.{pats_of, pattern_view}
 use Rattle.own_table.specs.declared.info.CaseInfo.{CaseInfo}
 use Rattle.own_table.specs.declared.table.TypeTable.{TypeTable}
 use Rattle.own_table.specs.Types.{Shape, Shapes, shapes_of, payloads_of, case_types}
 use Rattle.own_match.specs.declared.column.Column.{Column as Held}
 use Rattle.own_match.specs.declared.head.Head.TheVariants as head
-use Rattle.own_match.specs.Search.{all_inhabited, narrowed, is_mentioned, or_else, led, gathered, count, Later, gap_in_numbers, gap_in_truths, gap_in_cases, gap_in_payloads, gap, gap_columns, payload_columns, Column}
+use Rattle.own_match.specs.Search.{all_inhabited, narrowed, is_mentioned, or_else, led, gathered, count, Later, gap_in_numbers, gap_in_truths, gap_in_cases, gap_in_payloads, gap_columns, payload_columns}
 use Rattle.own_match.specs.First.{case_with, form_before, first_forms}
-use Rattle.own_match.specs.View.{said_all, columns_held, rest_of, gap_in_case, AreTyped, AreTypes}
-use Rattle.own_match.specs.Weights.{weight, weights, columns_weight, weight_from}
+use Rattle.own_match.specs.View.{said_all, columns_held, gap_in_case, AreTyped, AreTypes}
+use Rattle.own_match.specs.Weights.{weights, columns_weight}
 use Rattle.own_match.proofs.Enums.{drop_at, drop_past}
 use Rattle.own_match.proofs.Steps.{payload_gap, narrowed_same, case_before_others, pat_count, col_count, found_count, payload_count, payloads_weight}
 
@@ -44,7 +43,7 @@ module _ (shape_of : Ty → Shape) (cs : List CaseInfo) (i : ℕ) (c : CaseInfo)
   silent_case k others same silent full e =
       ap (λ k. form_before (case_with k (first_forms its k 0 cells)) (Some others)) same
       ∙ sym (case_before_others i its cells next live others (gap_in_cases (payloads_of shape_of (case_types (drop (i + 1) cs))) (i + 1) cells next live)
-          (subst (λ k. is_mentioned (head.Case k) live cells ≡ false) same silent) full e)
+      (subst (λ k. is_mentioned (head.Case k) live cells ≡ false) same silent) full e)
       ∙ sym here_or_later
 
 -- ---- numbers and truths
@@ -71,7 +70,7 @@ pub silent_truth : (cells : List TPat) (next : Later) (live : List Bool) (others
     → Some (pat (of_truth false) others) ≡ gap_in_truths cells next live
 silent_truth cells next live others silent e =
     sym (ap (λ r. or_else r (led (of_truth true) (next (narrowed (head.Truth true) live cells))))
-      (ap (λ x. led (of_truth false) (next x)) (narrowed_same (head.Truth false) live cells silent) ∙ ap (led (of_truth false)) (sym e)))
+    (ap (λ x. led (of_truth false) (next x)) (narrowed_same (head.Truth false) live cells silent) ∙ ap (led (of_truth false)) (sym e)))
 
 -- ---- the payloads of a case
 
@@ -82,8 +81,8 @@ pub case_gap : (shape_of : Ty → Shape) (k : ℕ) (info : CaseInfo) (c : Held) 
     → gathered k (count (shapes_of shape_of info.payloads)) r ≡ gap_in_case shape_of k info c rest live
 case_gap shape_of k info c rest live left todo r is held e =
     ap (gathered k (count (shapes_of shape_of info.payloads)))
-      (e ∙ ap (λ cs. gap_columns cs left) held ∙ ap (gap_columns (payload_columns (shapes_of shape_of info.payloads) k 0 (said_all c.cells.items) ++ columns_held shape_of rest)) is
-        ∙ sym (payload_gap (shapes_of shape_of info.payloads) k 0 (said_all c.cells.items) (columns_held shape_of rest) (narrowed (head.Case k) live (said_all c.cells.items))))
+    (e ∙ ap (λ cs. gap_columns cs left) held ∙ ap (gap_columns (payload_columns (shapes_of shape_of info.payloads) k 0 (said_all c.cells.items) ++ columns_held shape_of rest)) is
+    ∙ sym (payload_gap (shapes_of shape_of info.payloads) k 0 (said_all c.cells.items) (columns_held shape_of rest) (narrowed (head.Case k) live (said_all c.cells.items))))
 
 pub count_types : (shape_of : Ty → Shape) (tys : List Ty) → count (shapes_of shape_of tys) ≡ length tys
 count_types shape_of [] = refl

@@ -1,9 +1,9 @@
 -- What is missing in worked lists of patterns.
-use Rattle.std.proofs.Common.{◌≡◌, ℕ, zero, suc, ◌<◌, ◌⊎◌, ℤ, pos, negsuc, Bool, true, false, List, [], ◌∷◌, map, Option, Some, None, inl, inr, refl, arith}
-use Rattle.own_tree.specs.TypedSource.{TPat, any, bind, of_case, of_number, of_truth, TPats, no_pats, pat}
+use Rattle.std.proofs.Common.{◌≡◌, pos, negsuc, true, false, List, [], ◌∷◌, map, Option, Some, None, refl}
+use Rattle.own_tree.specs.TypedSource.{TPat, any, bind, of_case, of_number, TPats, no_pats, pat}
 use Rattle.own_table.specs.Types.{TypeHead, Shape, Shapes, no_shapes, Payloads, no_payloads, payloads}
 use Rattle.own_table.specs.Types as shape
-use Rattle.own_match.specs.Search.{Column, gap_columns}
+use Rattle.own_match.specs.Search.{gap_columns}
 
 here : TypeHead
 here = record { number = 0; noncopyable = true; has_deinit = false; changes = [] }

@@ -1,5 +1,5 @@
 -- What an answer says.
-use Rattle.std.specs.Prelude.{ℕ, Option, Some, None}
+use Rattle.std.specs.Prelude.{Option, Some, None}
 use Rattle.own_tree.specs.declared.pattern.Cover.{Cover}
 use Rattle.own_tree.specs.declared.pattern.Cover.TheVariants as cover
 use Rattle.own_tree.specs.declared.pattern.TPattern.{TPattern}

@@ -1,10 +1,10 @@
 -- Forms of values. A form is a pattern: at an enum a case with a form for each payload, at a `Bool` one of the two
 -- truths, at an `Int` a literal that some pattern has at the same place, or `_` for all other numbers, and `_` at a struct.
-use Rattle.std.specs.Prelude.{◌≡◌, ℕ, zero, suc, ◌<◌, ◌==◌, ℤ, ◌<ℤ◌, Bool, true, false, if◌then◌else◌, ◌⊎◌, List, [], ◌∷◌, map, Contains}
+use Rattle.std.specs.Prelude.{◌≡◌, ℕ, zero, suc, ◌<◌, ◌==◌, ℤ, ◌<ℤ◌, true, false, if◌then◌else◌, ◌⊎◌, List, [], ◌∷◌, map, Contains}
 use Rattle.own_tree.specs.TypedSource.{TPat, any, bind, of_case, of_number, of_truth, TPats, no_pats, pat}
 use Rattle.own_table.specs.Types.{Shape, Shapes, no_shapes, Payloads, no_payloads, payloads}
 use Rattle.own_table.specs.Types as shape
-use Rattle.own_match.specs.Values.{Val, int, bool, opaque, struct, variant, Vals, no_vals, val, IsOf, IsCovered}
+use Rattle.own_match.specs.Values.{Val, int, bool, variant, Vals, no_vals, val, IsOf, IsCovered}
 
 -- ---- what patterns say at a place
 

@@ -1,5 +1,5 @@
 -- How much is left to look at: every step of the search goes to less.
-use Rattle.std.specs.Prelude.{ℕ, suc, ◌+◌, max, List, [], ◌∷◌}
+use Rattle.std.specs.Prelude.{ℕ, ◌+◌, max, List, [], ◌∷◌}
 use Rattle.own_table.specs.Types.{Shape, Shapes, no_shapes, Payloads, no_payloads, payloads}
 use Rattle.own_table.specs.Types as shape
 use Rattle.own_tree.specs.declared.place.Ty.{Ty}

@@ -95,10 +95,7 @@ pub fn narrowed(
 }
 
 /// The numbers in a column, in rising order.
-pub fn literals(
-    alloc: Global,
-    cells: &[Option<&TPattern>],
-) -> Result<Vec<i64>, AllocError>
+pub fn literals(alloc: Global, cells: &[Option<&TPattern>]) -> Result<Vec<i64>, AllocError>
     ensures { IfOk result (λ numbers. numbers.items ≡ rising (said_all cells.now)) }
 {
     let mut numbers = BTreeSet::new(alloc);

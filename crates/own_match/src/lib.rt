@@ -3,9 +3,9 @@
 
 mod column;
 mod covering;
+mod found;
 mod head;
 mod inhabited;
-mod found;
 mod search;
 
 pub use covering::cover;

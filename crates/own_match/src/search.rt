@@ -230,9 +230,7 @@ impl Search<'_> {
             if !is_mentioned(live, column.cells.as_slice(), head) {
                 return put_first(TPattern::Number(*number), others);
             }
-            if let Some(forms) =
-                self.under(head, TPattern::Number(*number), column, rest, live)?
-            {
+            if let Some(forms) = self.under(head, TPattern::Number(*number), column, rest, live)? {
                 return Ok(Some(forms));
             }
         }
@@ -257,9 +255,13 @@ impl Search<'_> {
         if !is_mentioned(live, column.cells.as_slice(), Head::Truth(false)) {
             return put_first(TPattern::Truth(false), others);
         }
-        if let Some(forms) =
-            self.under(Head::Truth(false), TPattern::Truth(false), column, rest, live)?
-        {
+        if let Some(forms) = self.under(
+            Head::Truth(false),
+            TPattern::Truth(false),
+            column,
+            rest,
+            live,
+        )? {
             return Ok(Some(forms));
         }
         self.under(Head::Truth(true), TPattern::Truth(true), column, rest, live)

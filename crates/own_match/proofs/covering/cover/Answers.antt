@@ -1,4 +1,4 @@
-use Rattle.std.proofs.Common.{◌≡◌, Some, None, map, ap, sym, ◌∙◌}
+use Rattle.std.proofs.Common.{Some, None, map, ap, sym, ◌∙◌}
 use Rattle.own_tree.specs.TypedView.{pattern_view}
 use Rattle.own_table.specs.Table.{shape_in_table}
 use Rattle.own_match.specs.Answers.{single}

@@ -1,16 +1,13 @@
 -- The first form of a type, place after place.
-use Rattle.std.proofs.Common.{◌≡◌, ℕ, ◌<◌, ◌≤◌, ◌+◌, ◌*◌, ◌∙◌, ap, sym, refl, subst, arith, true, false, Some, None, List, [], slice_get, length, drop, map}
-use Rattle.own_tree.specs.declared.place.Ty.{Ty}
-use Rattle.own_tree.specs.TypedSource.{TPat, of_case, no_pats}
+use Rattle.std.proofs.Common.{◌≡◌, ◌<◌, ◌≤◌, ◌+◌, ◌∙◌, ap, sym, refl, subst, arith, false, Some, None, slice_get, drop, map}
 use Rattle.own_tree.specs.TypedView.{pats_of, pattern_view}
-use Rattle.own_table.specs.declared.info.CaseInfo.{CaseInfo}
-use Rattle.own_table.specs.Table.{types_in, shape_in_table, IsTypeIn}
-use Rattle.own_table.specs.Types.{Shape, shapes_of, payloads_of, case_types}
+use Rattle.own_table.specs.Table.{shape_in_table}
+use Rattle.own_table.specs.Types.{shapes_of, payloads_of, case_types}
 use Rattle.own_match.specs.declared.column.Column.{Column as Held}
 use Rattle.own_match.specs.Inhabited.{all_have_values}
-use Rattle.own_match.specs.Search.{all_inhabited, Column, payload_columns}
-use Rattle.own_match.specs.First.{case_with, first_form, first_forms, first_case, first_of_columns}
-use Rattle.own_match.specs.View.{said_all, columns_held, form_held, forms_and, IsCase, AreTypes}
+use Rattle.own_match.specs.Search.{all_inhabited, payload_columns}
+use Rattle.own_match.specs.First.{case_with, first_forms, first_case, first_of_columns}
+use Rattle.own_match.specs.View.{said_all, columns_held, form_held, forms_and, AreTypes}
 use Rattle.own_match.specs.Weights.{weight, weights}
 use Rattle.own_match.proofs.Enums.{first_enum, values_are, case_types_in, case_weight, type_in, part_weight, first_columns, forms_all, drop_past, got, first_step, none_found, found_more, column_type, case_at}
 use Rattle.own_match.proofs.Patterns.{case_view}
@@ -41,12 +38,12 @@ first_case-loop-at-preserved t c =
     let at : slice_get items i ≡ Some info = got items i info c.loop-at-test.true c.info-item.is in
     let none : case_with i (first_forms (shapes_of (shape_in_table table) info.payloads) i 0 cells) ≡ None = elim c.if-all_have_values.branch [
       | first_case-then-all_have_values+in-Ok+in_ok-form+in_default-2 w ↦ subst (λ k. case_with k (first_forms (shapes_of (shape_in_table table) info.payloads) k 0 cells) ≡ None) w.in-Ok.ensures.1 (sym w.in_ok-form.ensures ∙ ap form_held w.in_default-2.is)
-      | first_case-else-all_have_values w ↦ 
-        let typed : AreTypes table info.payloads = case_types_in table c.args.column.now.ty i info c.requires.typed (c.requires.is_enum, case_at table c.args.column.now.ty items i i info c.cases-info-items.ensures refl at) in
-        let known = c.args.self.now.inhabited.now in
-        let empty : all_inhabited (shapes_of (shape_in_table table) info.payloads) ≡ false =
+      | first_case-else-all_have_values w ↦
+          let typed : AreTypes table info.payloads = case_types_in table c.args.column.now.ty i info c.requires.typed (c.requires.is_enum, case_at table c.args.column.now.ty items i i info c.cases-info-items.ensures refl at) in
+          let known = c.args.self.now.inhabited.now in
+          let empty : all_inhabited (shapes_of (shape_in_table table) info.payloads) ≡ false =
           sym (values_are table known c.requires.known info.payloads typed) ∙ ap (all_have_values known) (sym c.as_slice.ensures) ∙ sym c.all_have_values.ensures ∙ w.if-all_have_values.false in
-        ap (case_with i) (forms_none (shapes_of (shape_in_table table) info.payloads) i 0 cells empty)
+          ap (case_with i) (forms_none (shapes_of (shape_in_table table) info.payloads) i 0 cells empty)
     ] in
     sym (first_step (shape_in_table table) cells items i info at none) ∙ c.loop-at.invariant
 
@@ -72,9 +69,9 @@ first_of_case-returns-in-None t c =
     let i = c.loop-column.column-index in
     let at : slice_get items i ≡ Some c.column-item.result = got items i c.column-item.result c.loop-column-test.true c.column-item.is in
     let held : columns_held (shape_in_table table) items ≡ payload_columns (shapes_of (shape_in_table table) c.args.info.now.payloads) c.args.case 0 cells =
-        ap (columns_held (shape_in_table table)) c.as_slice-column-items.ensures.value ∙ c.in_ok-columns.ensures.held
-        ∙ ap (λ tys. payload_columns (shapes_of (shape_in_table table) tys) c.args.case 0 (said_all c.as_slice-2.result.now)) c.as_slice.ensures
-        ∙ ap (λ xs. payload_columns (shapes_of (shape_in_table table) c.args.info.now.payloads) c.args.case 0 (said_all xs)) c.as_slice-2.ensures.value in
+    ap (columns_held (shape_in_table table)) c.as_slice-column-items.ensures.value ∙ c.in_ok-columns.ensures.held
+    ∙ ap (λ tys. payload_columns (shapes_of (shape_in_table table) tys) c.args.case 0 (said_all c.as_slice-2.result.now)) c.as_slice.ensures
+    ∙ ap (λ xs. payload_columns (shapes_of (shape_in_table table) c.args.info.now.payloads) c.args.case 0 (said_all xs)) c.as_slice-2.ensures.value in
     let none = none_found (shape_in_table table) items i c.column-item.result at c.loop-column.forms (first_of_columns (columns_held (shape_in_table table) items)) (sym c.in_ok-form.ensures ∙ ap form_held c.in-None.is) c.loop-column.invariant in
     sym (ap (case_with c.args.case) (sym (first_columns (shapes_of (shape_in_table table) c.args.info.now.payloads) c.args.case 0 cells) ∙ ap first_of_columns (sym held) ∙ none))
 
@@ -94,10 +91,10 @@ first_of_case-returns t c =
     let cells = said_all c.args.column.now.cells.items in
     let i = c.loop-column.column-index in
     let held : columns_held (shape_in_table table) items ≡ payload_columns (shapes_of (shape_in_table table) c.args.info.now.payloads) c.args.case 0 cells =
-        ap (columns_held (shape_in_table table)) c.as_slice-column-items.ensures.value ∙ c.in_ok-columns.ensures.held
-        ∙ ap (λ tys. payload_columns (shapes_of (shape_in_table table) tys) c.args.case 0 (said_all c.as_slice-2.result.now)) c.as_slice.ensures
-        ∙ ap (λ xs. payload_columns (shapes_of (shape_in_table table) c.args.info.now.payloads) c.args.case 0 (said_all xs)) c.as_slice-2.ensures.value in
+    ap (columns_held (shape_in_table table)) c.as_slice-column-items.ensures.value ∙ c.in_ok-columns.ensures.held
+    ∙ ap (λ tys. payload_columns (shapes_of (shape_in_table table) tys) c.args.case 0 (said_all c.as_slice-2.result.now)) c.as_slice.ensures
+    ∙ ap (λ xs. payload_columns (shapes_of (shape_in_table table) c.args.info.now.payloads) c.args.case 0 (said_all xs)) c.as_slice-2.ensures.value in
     let all : Some (pats_of (map pattern_view c.loop-column.forms)) ≡ first_of_columns (columns_held (shape_in_table table) items) =
-        sym (forms_all c.loop-column.forms) ∙ ap (λ xs. forms_and c.loop-column.forms (first_of_columns (columns_held (shape_in_table table) xs))) (sym (drop_past items i c.loop-column-test.false)) ∙ c.loop-column.invariant in
+    sym (forms_all c.loop-column.forms) ∙ ap (λ xs. forms_and c.loop-column.forms (first_of_columns (columns_held (shape_in_table table) xs))) (sym (drop_past items i c.loop-column-test.false)) ∙ c.loop-column.invariant in
     ap Some (case_view c.args.case c.loop-column.forms)
     ∙ ap (case_with c.args.case) (all ∙ ap first_of_columns held ∙ first_columns (shapes_of (shape_in_table table) c.args.info.now.payloads) c.args.case 0 cells)

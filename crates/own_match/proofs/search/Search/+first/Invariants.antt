@@ -1,5 +1,5 @@
-use Rattle.std.proofs.Common.{◌≡◌, ℕ, ◌+◌, ◌*◌, drop}
-use Rattle.own_table.specs.Table.{types_in, shape_in_table}
+use Rattle.std.proofs.Common.{◌≡◌, ◌+◌, ◌*◌, drop}
+use Rattle.own_table.specs.Table.{shape_in_table}
 use Rattle.own_table.specs.Types.{payloads_of, case_types}
 use Rattle.own_match.specs.First.{first_case, first_form, first_of_columns}
 use Rattle.own_match.specs.View.{said_all, columns_held, forms_and}

@@ -1,4 +1,4 @@
-use Rattle.std.proofs.Common.{◌≡◌, ℕ, ◌+◌, ◌*◌, drop}
+use Rattle.std.proofs.Common.{◌≡◌, ◌+◌, ◌*◌, drop}
 use Rattle.own_table.specs.Table.{shape_in_table}
 use Rattle.own_table.specs.Types.{payloads_of, case_types}
 use Rattle.own_match.specs.Search.{rising, gap_in_numbers, gap_in_cases}
