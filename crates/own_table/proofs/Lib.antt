@@ -4,6 +4,9 @@ pub mod Descent
 pub mod Leaves
 pub mod Unfolding
 pub mod Whole
+pub mod ByIndex
+pub mod Settled
+pub mod Advance
 pub mod Causes
 pub mod Sound
 pub mod TraceFacts

@@ -1,6 +1,8 @@
 pub mod Types
 pub mod Measures
 pub mod Table
+pub mod Order
+pub mod Settling
 pub mod Within
 pub mod Captures
 pub mod Ops

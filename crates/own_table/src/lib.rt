@@ -5,6 +5,8 @@
 pub mod error;
 pub mod info;
 pub mod laws;
+mod mark;
+mod order;
 pub mod table;
 
 pub use error::TableError;
