@@ -7,6 +7,7 @@ pub mod Whole
 pub mod ByIndex
 pub mod Settled
 pub mod Advance
+pub mod Extended
 pub mod Causes
 pub mod Sound
 pub mod TraceFacts

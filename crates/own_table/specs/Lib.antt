@@ -2,6 +2,7 @@ pub mod Types
 pub mod Measures
 pub mod Table
 pub mod Order
+pub mod Extents
 pub mod Settling
 pub mod Within
 pub mod Captures

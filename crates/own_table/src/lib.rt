@@ -3,6 +3,7 @@
 #![tactic(auto)]
 
 pub mod error;
+mod extent;
 pub mod info;
 pub mod laws;
 mod mark;
