@@ -8,6 +8,7 @@ pub mod ByIndex
 pub mod Settled
 pub mod Advance
 pub mod Extended
+pub mod Measured
 pub mod Causes
 pub mod Sound
 pub mod TraceFacts

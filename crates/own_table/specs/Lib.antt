@@ -3,6 +3,7 @@ pub mod Measures
 pub mod Table
 pub mod Order
 pub mod Extents
+pub mod ByParts
 pub mod Settling
 pub mod Within
 pub mod Captures

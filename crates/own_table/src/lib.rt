@@ -7,6 +7,7 @@ mod extent;
 pub mod info;
 pub mod laws;
 mod mark;
+mod measure;
 mod order;
 pub mod table;
 
