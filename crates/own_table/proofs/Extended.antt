@@ -87,7 +87,7 @@ module _ (types : Types) (known : List (Option ℕ)) where
       by_shape : Bool → Option ℕ
       by_shape b =
           only_if (are_within types MOST_TYPE_SLOTS (if b then all_case_types t.cases else field_types t.fields))
-            (slots (if b then enum (head_of k t) (payloads_of types.shape (case_types t.cases)) else struct (head_of k t) (shapes_of types.shape (field_types t.fields))))
+          (slots (if b then enum (head_of k t) (payloads_of types.shape (case_types t.cases)) else struct (head_of k t) (shapes_of types.shape (field_types t.fields))))
 
       parts : (b : Bool) → t.is_enum ≡ b → (ty : Ty) → In (if b then all_case_types t.cases else field_types t.fields) ty → Right ty
       parts b e ty i = all ty (subst (λ x. In (if x then all_case_types t.cases else field_types t.fields) ty) (sym e) i)
@@ -126,8 +126,8 @@ module _ (types : Types) where
   not_within_cases [] e = absurd cc
   not_within_cases (c ∷ cs) e =
       elim (one_over (are_within types MOST_TYPE_SLOTS c.payloads) (are_within types MOST_TYPE_SLOTS (all_case_types cs)) (sym (within-append types [] c.payloads (all_case_types cs)) ∙ e)) [
-      | inl first ↦ let h = not_within c.payloads first in omega (arith, h)
-      | inr rest ↦ let h = not_within_cases cs rest in omega (arith, h)
+        | inl first ↦ let h = not_within c.payloads first in omega (arith, h)
+        | inr rest ↦ let h = not_within_cases cs rest in omega (arith, h)
       ]
 
   whole_over : (k : ℕ) (t : TypeInfo) → are_within types MOST_TYPE_SLOTS (contained t) ≡ false → MOST_TYPE_SLOTS < slots (declared_shape types.shape k t)
@@ -207,8 +207,8 @@ module _ (ts : List TypeInfo) where
       earlier : (j ≡ k → ⊥) → at < i
       earlier ne = elim (eqb_tells at i) [
         | inl same ↦
-          let both : Some j ≡ Some k = sym there ∙ ap (slice_get order) same.1 ∙ here in
-          absurd (ne cc)
+            let both : Some j ≡ Some k = sym there ∙ ap (slice_get order) same.1 ∙ here in
+            absurd (ne cc)
         | inr other ↦ let apart : at ≡ i → ⊥ = other.1 in omega (arith, lt)
       ]
 
@@ -293,8 +293,8 @@ module _ (ts : List TypeInfo) where
           → slots ((types_resolved ts).shape (type.Named k)) ≤ MOST_TYPE_SLOTS
       by_type it deeper =
           none_at 0 ts k it.0 none it.1 (slots ((types_resolved ts).shape (type.Named k)))
-            (ap (λ x. counted_at (types_resolved ts) x it.0) (let z : 0 + k ≡ k = omega arith in z)
-              ∙ ap (λ b. only_if b (slots ((types_resolved ts).shape (type.Named k)))) (are_all_within (contained it.0) (part it.0 it.1 deeper)))
+          (ap (λ x. counted_at (types_resolved ts) x it.0) (let z : 0 + k ≡ k = omega arith in z)
+          ∙ ap (λ b. only_if b (slots ((types_resolved ts).shape (type.Named k)))) (are_all_within (contained it.0) (part it.0 it.1 deeper)))
 
   pub all_within : first_over_M8 ts ≡ None → (order : List ℕ) → IsContainmentOrder ts order → (k : ℕ) → k < length ts → slots ((types_resolved ts).shape (type.Named k)) ≤ MOST_TYPE_SLOTS
   all_within none order is k lt = let place = contains_get order k (is.every k lt) in within_at none order is (suc place.0) place.0 k (omega arith) place.2

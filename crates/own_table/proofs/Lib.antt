@@ -9,6 +9,7 @@ pub mod Settled
 pub mod Advance
 pub mod Extended
 pub mod Measured
+pub mod FewLeaves
 pub mod Causes
 pub mod Sound
 pub mod TraceFacts

@@ -28,9 +28,9 @@ pub fields_step : (ms : List Measure) (fs : List FieldInfo) (i : ℕ) (f : Field
     → ls ++ field_leaves ms i (drop i fs) ≡ (ls ++ map (λ path. i ∷ path) (part_leaves ms f.ty)) ++ field_leaves ms (i + 1) (drop (i + 1) fs)
 fields_step ms fs i f ls lt is =
     ap (λ x. ls ++ x)
-      (at_drop_more (field_leaves ms i) fs i f lt
-        ∙ ap (λ g. map (λ path. i ∷ path) (part_leaves ms g.ty) ++ field_leaves ms (suc i) (drop (i + 1) fs)) (sym is)
-        ∙ ap (λ n. map (λ path. i ∷ path) (part_leaves ms f.ty) ++ field_leaves ms n (drop (i + 1) fs)) (let next : suc i ≡ i + 1 = omega arith in next))
+    (at_drop_more (field_leaves ms i) fs i f lt
+    ∙ ap (λ g. map (λ path. i ∷ path) (part_leaves ms g.ty) ++ field_leaves ms (suc i) (drop (i + 1) fs)) (sym is)
+    ∙ ap (λ n. map (λ path. i ∷ path) (part_leaves ms f.ty) ++ field_leaves ms n (drop (i + 1) fs)) (let next : suc i ≡ i + 1 = omega arith in next))
     ∙ sym (append_assoc ls (map (λ path. i ∷ path) (part_leaves ms f.ty)) (field_leaves ms (i + 1) (drop (i + 1) fs)))
 
 -- ---- by the parts
@@ -149,8 +149,8 @@ module _ (ts : List TypeInfo) where
       earlier : (j ≡ k → ⊥) → at < i
       earlier ne = elim (eqb_tells at i) [
         | inl same ↦
-          let both : Some j ≡ Some k = sym there ∙ ap (slice_get order) same.1 ∙ here in
-          absurd (ne cc)
+            let both : Some j ≡ Some k = sym there ∙ ap (slice_get order) same.1 ∙ here in
+            absurd (ne cc)
         | inr other ↦ let apart : at ≡ i → ⊥ = other.1 in omega (arith, lt)
       ]
 

@@ -239,12 +239,7 @@ pub fn measures(
     let mut measures = nothing_measured(alloc, types.len())?;
     for number in order {
         let slots = slots_at(known, *number);
-        let computed = measure(
-            alloc,
-            &types[*number as usize],
-            slots,
-            measures.as_slice(),
-        )?;
+        let computed = measure(alloc, &types[*number as usize], slots, measures.as_slice())?;
         measures[*number as usize] = computed;
     }
     Ok(Row::from_vec(measures))

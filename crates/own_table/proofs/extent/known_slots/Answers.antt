@@ -16,7 +16,7 @@ loop-number-preserved c =
       each = length-set known k c.kept_within.result ∙ c.loop-number.invariant.each;
       small = subst (λ o. All IsSmall (set known k o)) (sym c.kept_within.ensures) (small_more known k c.type_slots-slots.result c.loop-number.invariant.small);
       known = λ at' j lt e. subst (λ o. KnownAt ts (set known k o) j) (sym is)
-        (known_more ts order c.requires.order known i k t here at c.loop-number.invariant.each c.loop-number.invariant.known at' j lt e);
+          (known_more ts order c.requires.order known i k t here at c.loop-number.invariant.each c.loop-number.invariant.known at' j lt e);
     }
 
 pub returns : goal.returns
