@@ -10,6 +10,7 @@ pub mod Advance
 pub mod Extended
 pub mod Measured
 pub mod FewLeaves
+pub mod Fitted
 pub mod Causes
 pub mod Sound
 pub mod TraceFacts

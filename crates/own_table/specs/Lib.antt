@@ -4,6 +4,8 @@ pub mod Table
 pub mod Order
 pub mod Extents
 pub mod ByParts
+pub mod Fitting
+pub mod Unfit
 pub mod Settling
 pub mod Within
 pub mod Captures

@@ -3,7 +3,8 @@
 #![tactic(auto)]
 
 pub mod error;
-mod extent;
+pub mod extent;
+mod fitting;
 pub mod info;
 pub mod laws;
 mod mark;
@@ -11,8 +12,9 @@ mod measure;
 mod order;
 pub mod table;
 
-pub use error::TableError;
-pub use info::{CaseInfo, FieldInfo};
+pub use error::{TableError, Unfit};
+pub use extent::Over;
+pub use info::{CaseInfo, FieldInfo, TypeInfo};
 pub use laws::{
     findings_are_one_list, findings_are_ordered, findings_have_one_cause,
     fixed_findings_are_one_list, leaves_are_apart, leaves_have_one_fact, limits_are_exceeded,

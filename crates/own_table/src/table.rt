@@ -5,9 +5,13 @@ ghost use Rattle.own_tree.specs.declared.limits.TheConstants.{MOST_TYPES};
 ghost use Rattle.own_table.specs.Measures.{AreMeasures, AreWithin};
 ghost use Rattle.own_table.specs.Types.{NoneContainsItself, PartsAreTypes};
 
+use crate::error::Unfit;
 use crate::extent::{first_over, known_slots};
+use crate::fitting::are_fit;
 use crate::info::{CaseInfo, FieldInfo, Measure, TypeInfo};
+use crate::mark::Unordered;
 use crate::measure::{Unmeasured, measures};
+use crate::order::containment_order;
 use own_tree::{Row, Ty};
 use std::alloc::Global;
 
@@ -32,11 +36,36 @@ pub struct TypeTable {
 impl TypeTable {
     ghost use Rattle.std.specs.Prelude.{◌<◌, slice_get, Some};
     ghost use Rattle.own_table.specs.Types.{copyable, tracked, holds_tracked, leaves, slots};
-    ghost use Rattle.std.specs.Prelude.{IfOk, IfErr};
+    ghost use Rattle.std.specs.Prelude.{true, IfOk, IfErr, OnOk};
     ghost use Rattle.own_table.specs.ByParts.{IsOver};
     ghost use Rattle.own_table.specs.Extents.{HaveFewParts};
+    ghost use Rattle.own_table.specs.Fitting.{are_fit};
     ghost use Rattle.own_table.specs.Order.{IsContainmentOrder};
+    ghost use Rattle.own_table.specs.Unfit.{IsUnfit};
     ghost use Rattle.own_table.specs.Table.{types_in, shape_in_table, IsTypeIn, IsTableOf};
+
+    /// The table of types, whose names are resolved: of types within M4, M5 and M7 of which each part is
+    /// a type, none of which contains itself, and which are all within M8.
+    pub fn from_types(alloc: Global, types: Row<TypeInfo>) -> Result<TypeTable, Unfit>
+        ensures ok { IfOk result (IsTableOf types) }
+        ensures fit { OnOk result (are_fit types ≡ true) }
+        ensures apart { OnOk result (NoneContainsItself types) }
+        ensures err { IfErr result (IsUnfit types) }
+    {
+        if !are_fit(types.as_slice()) {
+            return Err(Unfit::Parts);
+        }
+        let order = match containment_order(alloc, types.as_slice()) {
+            Ok(order) => order,
+            Err(Unordered::ContainsItself(number)) => return Err(Unfit::ContainsItself(number)),
+            Err(Unordered::Memory) => return Err(Unfit::Memory),
+        };
+        match TypeTable::from_order(alloc, types, order.as_slice()) {
+            Ok(table) => Ok(table),
+            Err(Unmeasured::Over(over)) => Err(Unfit::Over(over)),
+            Err(Unmeasured::Memory) => Err(Unfit::Memory),
+        }
+    }
 
     /// The table of types in an order in which each comes after what it contains, or the first one over
     /// M8.
