@@ -1,7 +1,6 @@
 -- One step of the search for an order of types.
-use Rattle.std.proofs.Common.{◌≡◌, ℕ, zero, suc, ◌+◌, ◌*◌, ◌<◌, ◌≤◌, ◌⊎◌, List, [], ◌∷◌, ◌++◌, length, set, get_or, slice_get, Option, Some, None, inl, inr, refl, sym, ap, ◌∙◌, subst, arith, length-append}
-use Rattle.std.specs.Prelude.{Contains, IsTrue, vec_len, nat_lt}
-use Rattle.std.specs.List.{list_all}
+use Rattle.std.proofs.Common.{◌≡◌, ℕ, suc, ◌<◌, List, [], ◌∷◌, ◌++◌, length, set, get_or, slice_get, Some, None, inl, inr, refl, sym, ◌∙◌, subst, arith, length-append}
+use Rattle.std.specs.Prelude.{vec_len}
 use Rattle.std.proofs.lemmas.Bool.{ltb-true}
 use Rattle.std.proofs.lemmas.Bool.Decides.{eqb_tells}
 use Rattle.std.proofs.lemmas.List.Elements.{Contains-push}
@@ -11,13 +10,13 @@ use Rattle.own_table.specs.declared.info.TypeInfo.{TypeInfo}
 use Rattle.own_table.specs.declared.mark.Mark.{Mark}
 use Rattle.own_table.specs.declared.mark.Mark.TheVariants as mark
 use Rattle.own_table.specs.declared.order.Settling.{Settling}
-use Rattle.own_table.specs.Order.{HasPart, IsSettling, KeepsMarks, first_unsettled, count_new, work_left, IsPath}
+use Rattle.own_table.specs.Order.{HasPart, IsSettling, KeepsMarks, first_unsettled, work_left, IsPath}
 use Rattle.own_table.specs.Settling.{Settles, SettlesWith, IsOpened, IsOpenedBelow, IsSettledAs, Keeps, work_of, work_with}
 use Rattle.own_table.specs.Types.{contained, is_part, ContainsIn, PartsAreTypes}
 use Rattle.own_table.proofs.ByIndex.{set_same, set_other}
-use Rattle.own_table.proofs.Members.{In, in_contains, contains_in}
+use Rattle.own_table.proofs.Members.{contains_in}
 use Rattle.own_table.proofs.Settled.{opened, settled, circle, one_unsettled, path_longer, count_new-open, count_new-settle}
-use Rattle.own_table.proofs.Whole.{got, all_in}
+use Rattle.own_table.proofs.Whole.{all_in}
 
 -- a write that makes no mark new keeps marks
 keeps_set : (marks : List Mark) (k : ℕ) (m : Mark) → k < length marks → ((e : m ≡ mark.New) → ⊥) → KeepsMarks marks (set marks k m)

@@ -1,5 +1,5 @@
 -- Elements of a list by their index, after a write and after a push.
-use Rattle.std.proofs.Common.{◌≡◌, ℕ, zero, suc, ◌+◌, ◌<◌, ◌⊎◌, List, [], ◌∷◌, ◌++◌, length, set, slice_get, Option, Some, None, inl, inr, refl, sym, ap, ◌∙◌, arith}
+use Rattle.std.proofs.Common.{◌≡◌, ℕ, zero, suc, ◌<◌, ◌⊎◌, List, [], ◌∷◌, ◌++◌, length, set, slice_get, Some, inl, inr, refl, ap, arith}
 use Rattle.std.specs.Prelude.{Contains}
 use Rattle.own_table.proofs.Members.{In, in_contains, contains_in}
 

@@ -1,6 +1,6 @@
 -- The slots of types by what is known of their parts.
-use Rattle.std.proofs.Common.{◌≡◌, ℕ, zero, suc, ◌+◌, ◌<◌, ◌≤◌, max, ◌⊎◌, Bool, true, false, ◌||◌, ◌&&◌, List, [], ◌∷◌, ◌++◌, length, set, map, drop, get_or, slice_get, Option, Some, None, inl, inr, refl, sym, ap, ◌∙◌, subst, arith, lit≤}
-use Rattle.std.specs.Prelude.{All, Contains, IsTrue, nat_le, nat_lt, if◌then◌else◌, eqb}
+use Rattle.std.proofs.Common.{◌≡◌, ℕ, zero, suc, ◌+◌, ◌<◌, ◌≤◌, max, ◌⊎◌, Bool, true, false, ◌||◌, ◌&&◌, List, [], ◌∷◌, ◌++◌, length, set, drop, get_or, slice_get, Option, Some, None, inl, inr, refl, sym, ap, ◌∙◌, subst, arith, lit≤}
+use Rattle.std.specs.Prelude.{All, nat_le, nat_lt, if◌then◌else◌}
 use Rattle.std.proofs.lemmas.Bool.{leb-false, lt-leb, le-leb, leb-true, ltb-false, ltb-true}
 use Rattle.std.proofs.lemmas.Bool.Decides.{eqb_tells}
 use Rattle.std.proofs.lemmas.List.{at_drop_more}
@@ -9,14 +9,13 @@ use Rattle.std.proofs.lemmas.Option.{slice_get_read, slice_get_within}
 use Rattle.own_tree.specs.declared.limits.TheConstants.{MOST_TYPE_SLOTS}
 use Rattle.own_tree.specs.declared.place.Ty.{Ty}
 use Rattle.own_tree.specs.declared.place.Ty.TheVariants as type
-use Rattle.own_table.specs.declared.extent.Over.{Over}
 use Rattle.own_table.specs.declared.info.CaseInfo.{CaseInfo}
 use Rattle.own_table.specs.declared.info.FieldInfo.{FieldInfo}
 use Rattle.own_table.specs.declared.info.TypeInfo.{TypeInfo}
 use Rattle.own_table.specs.Extents.{within_M8, AreKnown, IsSmall, known_at, part_slots, plus, larger, sum_of_parts, most_of_cases, is_nil, slots_by_parts, kept_within, beyond_M8, over_at, counted_at, first_over_from, first_over_M8}
 use Rattle.own_table.specs.Limits.{are_within}
-use Rattle.own_table.specs.Order.{HasPart, ComeAfterParts, IsContainmentOrder}
-use Rattle.own_table.specs.Types.{Types, Shape, Shapes, no_shapes, shape, struct, enum, is_none, slots, all_slots, most_slots, one_if, shapes_of, payloads_of, field_types, case_types, all_case_types, contained, head_of, declared_shape, is_part, types_resolved, NoneContainsItself, PartsAreTypes}
+use Rattle.own_table.specs.Order.{IsContainmentOrder}
+use Rattle.own_table.specs.Types.{Types, struct, enum, is_none, slots, all_slots, most_slots, one_if, shapes_of, payloads_of, field_types, case_types, all_case_types, contained, head_of, declared_shape, is_part, types_resolved, NoneContainsItself, PartsAreTypes}
 use Rattle.own_table.proofs.ByIndex.{set_same, set_other, contains_get}
 use Rattle.own_table.proofs.Members.{In, in_front, in_back, contains_in}
 use Rattle.own_table.proofs.Settled.{order_apart}

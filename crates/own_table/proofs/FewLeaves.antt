@@ -1,6 +1,6 @@
 -- A type has no more leaves than slots: each part takes one.
-use Rattle.std.proofs.Common.{◌≡◌, ℕ, zero, suc, ◌+◌, ◌<◌, ◌≤◌, Bool, true, false, ◌||◌, List, [], ◌∷◌, ◌++◌, length, map, slice_get, Option, Some, None, inl, inr, refl, sym, ap, ◌∙◌, subst, arith, lit≤, length-append}
-use Rattle.std.specs.Prelude.{Contains, IsTrue, if◌then◌else◌}
+use Rattle.std.proofs.Common.{◌≡◌, ℕ, zero, suc, ◌+◌, ◌<◌, ◌≤◌, Bool, true, false, ◌||◌, List, [], ◌∷◌, length, map, slice_get, Some, inl, inr, refl, sym, subst, arith, lit≤, length-append}
+use Rattle.std.specs.Prelude.{IsTrue, if◌then◌else◌}
 use Rattle.std.proofs.lemmas.List.{length-map}
 use Rattle.own_tree.specs.declared.limits.TheConstants.{MOST_TYPE_SLOTS}
 use Rattle.own_tree.specs.declared.place.Ty.{Ty}
@@ -8,7 +8,7 @@ use Rattle.own_tree.specs.declared.place.Ty.TheVariants as type
 use Rattle.own_table.specs.declared.info.TypeInfo.{TypeInfo}
 use Rattle.own_table.specs.Measures.{AreWithin}
 use Rattle.own_table.specs.Order.{IsContainmentOrder}
-use Rattle.own_table.specs.Types.{Shape, Shapes, no_shapes, shape, struct, enum, is_none, slots, all_slots, leaves, leaves_from, one_if, shapes_of, payloads_of, field_types, case_types, all_case_types, contained, head_of, is_part, declared_shape, types_resolved, PartsAreTypes}
+use Rattle.own_table.specs.Types.{Shape, struct, enum, is_none, slots, all_slots, leaves, leaves_from, one_if, shapes_of, payloads_of, field_types, case_types, all_case_types, contained, head_of, is_part, declared_shape, types_resolved, PartsAreTypes}
 use Rattle.own_table.proofs.ByIndex.{contains_get}
 use Rattle.own_table.proofs.Members.{In, contains_in}
 use Rattle.own_table.proofs.Settled.{order_apart}

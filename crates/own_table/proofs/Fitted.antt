@@ -1,6 +1,6 @@
 -- Types that pass the tests are such as a table is made of.
-use Rattle.std.proofs.Common.{◌≡◌, ℕ, ◌<◌, ◌≤◌, Bool, true, false, ◌&&◌, List, [], ◌∷◌, length, slice_get, Some, inl, inr, refl, sym, ap, ◌∙◌, subst}
-use Rattle.std.specs.Prelude.{All, Contains, IsTrue, nat_le}
+use Rattle.std.proofs.Common.{◌≡◌, ℕ, ◌≤◌, true, List, [], ◌∷◌, length}
+use Rattle.std.specs.Prelude.{All, nat_le}
 use Rattle.std.specs.List.{list_all}
 use Rattle.std.proofs.lemmas.Bool.{and_parts, leb-true}
 use Rattle.std.proofs.lemmas.List.Elements.{All-nil, All-cons}
@@ -9,9 +9,8 @@ use Rattle.own_table.specs.declared.info.CaseInfo.{CaseInfo}
 use Rattle.own_table.specs.declared.info.TypeInfo.{TypeInfo}
 use Rattle.own_table.specs.Extents.{HasFewParts, HaveFewParts}
 use Rattle.own_table.specs.Fitting.{has_few_payloads, has_few_parts, has_known_parts, is_fit, are_fit}
-use Rattle.own_table.specs.Types.{contained, is_part, PartsAreTypes}
+use Rattle.own_table.specs.Types.{PartsAreTypes}
 use Rattle.own_table.proofs.ByIndex.{get_in}
-use Rattle.own_table.proofs.Members.{In}
 use Rattle.own_table.proofs.Whole.{all_in}
 
 few_payloads : (cs : List CaseInfo) → list_all has_few_payloads cs ≡ true → All (λ c. length c.payloads ≤ MOST_PARAMETERS) cs

@@ -11,6 +11,8 @@ pub mod Extended
 pub mod Measured
 pub mod FewLeaves
 pub mod Fitted
+pub mod Numbered
+pub mod Resolved
 pub mod Causes
 pub mod Sound
 pub mod TraceFacts

@@ -1,10 +1,10 @@
 -- What is computed of each type is that of its shape.
-use Rattle.std.proofs.Common.{◌≡◌, ℕ, zero, suc, ◌+◌, ◌<◌, ◌≤◌, max, ◌⊎◌, Bool, true, false, ◌||◌, List, [], ◌∷◌, ◌++◌, length, set, map, drop, get_or, slice_get, Option, Some, None, inl, inr, refl, sym, ap, ◌∙◌, subst, arith, lit≤, append_assoc, length-append}
-use Rattle.std.specs.Prelude.{Contains, IsTrue, if◌then◌else◌, eqb}
-use Rattle.std.proofs.lemmas.Bool.{le-leb, ltb-true}
+use Rattle.std.proofs.Common.{◌≡◌, ℕ, suc, ◌+◌, ◌<◌, ◌≤◌, Bool, true, false, ◌||◌, List, [], ◌∷◌, ◌++◌, length, set, map, drop, get_or, slice_get, Option, Some, None, inl, inr, refl, sym, ap, ◌∙◌, subst, arith, append_assoc}
+use Rattle.std.specs.Prelude.{if◌then◌else◌}
+use Rattle.std.proofs.lemmas.Bool.{le-leb}
 use Rattle.std.proofs.lemmas.Bool.Decides.{eqb_tells}
 use Rattle.std.proofs.lemmas.List.{at_drop_more}
-use Rattle.std.proofs.lemmas.Option.{slice_get_read, slice_get_within}
+use Rattle.std.proofs.lemmas.Option.{slice_get_within}
 use Rattle.own_tree.specs.declared.limits.TheConstants.{MOST_TYPE_SLOTS}
 use Rattle.own_tree.specs.declared.place.Ty.{Ty}
 use Rattle.own_tree.specs.declared.place.Ty.TheVariants as type
@@ -14,14 +14,13 @@ use Rattle.own_table.specs.declared.info.Measure.{Measure}
 use Rattle.own_table.specs.declared.info.TypeInfo.{TypeInfo}
 use Rattle.own_table.specs.ByParts.{leaves_at, part_leaves, field_leaves, leaves_by_parts, holds_at, part_holds, one_holds, one_case_holds, holds_by_parts, measure_by_parts, slots_at}
 use Rattle.own_table.specs.Extents.{AreKnown, is_nil, within_M8}
-use Rattle.own_table.specs.Measures.{measure_of, AreMeasures, AreWithin}
+use Rattle.own_table.specs.Measures.{measure_of, AreMeasures}
 use Rattle.own_table.specs.Order.{IsContainmentOrder}
-use Rattle.own_table.specs.Types.{Types, Shape, Shapes, no_shapes, shape, struct, enum, is_none, slots, all_slots, most_slots, leaves, leaves_from, holds_tracked, one_holds_tracked, one_case_holds_tracked, one_if, shapes_of, payloads_of, field_types, case_types, all_case_types, contained, head_of, is_part, declared_shape, types_resolved, NoneContainsItself, PartsAreTypes}
+use Rattle.own_table.specs.Types.{Types, Shape, struct, enum, is_none, slots, leaves, leaves_from, holds_tracked, one_holds_tracked, one_case_holds_tracked, shapes_of, payloads_of, field_types, case_types, all_case_types, contained, head_of, declared_shape, types_resolved}
 use Rattle.own_table.proofs.ByIndex.{set_same, set_other, contains_get}
 use Rattle.own_table.proofs.Members.{In, in_front, in_back, contains_in}
 use Rattle.own_table.proofs.Settled.{order_apart}
 use Rattle.own_table.proofs.Unfolding.{shapes_unfold}
-use Rattle.own_table.proofs.Whole.{got, all_in}
 
 -- one turn of the loop over the properties
 pub fields_step : (ms : List Measure) (fs : List FieldInfo) (i : ℕ) (f : FieldInfo) (ls : List (List ℕ)) → i < length fs → f ≡ get_or fs i f

@@ -1,6 +1,6 @@
 -- The search for an order of types: what each of its steps keeps, and what it has at the end.
-use Rattle.std.proofs.Common.{◌≡◌, ℕ, zero, suc, ◌+◌, ◌*◌, ◌<◌, ◌≤◌, ◌⊎◌, List, [], ◌∷◌, ◌++◌, length, set, drop, get_or, slice_get, Option, Some, None, inl, inr, refl, sym, ap, ◌∙◌, subst, arith, length-set, length-append, append_assoc}
-use Rattle.std.specs.Prelude.{Contains, eqb}
+use Rattle.std.proofs.Common.{◌≡◌, ℕ, zero, suc, ◌+◌, ◌<◌, ◌≤◌, List, [], ◌∷◌, ◌++◌, length, set, drop, get_or, slice_get, Option, Some, None, inl, inr, refl, sym, ap, ◌∙◌, subst, arith, length-set}
+use Rattle.std.specs.Prelude.{Contains}
 use Rattle.std.proofs.lemmas.Bool.Decides.{eqb_tells}
 use Rattle.std.proofs.lemmas.List.Elements.{Contains-push, Contains-append_left, Contains-push_cases}
 use Rattle.std.proofs.lemmas.Option.{slice_get_within}
@@ -11,10 +11,10 @@ use Rattle.own_table.specs.declared.info.CaseInfo.{CaseInfo}
 use Rattle.own_table.specs.declared.info.TypeInfo.{TypeInfo}
 use Rattle.own_table.specs.declared.mark.Mark.{Mark}
 use Rattle.own_table.specs.declared.mark.Mark.TheVariants as mark
-use Rattle.own_table.specs.Order.{HasPart, ComeAfterParts, IsContainmentOrder, unless_settled, unsettled, first_of, first_unsettled, LeadsTo, IsPath, IsSettling, one_new, count_new, work_left}
+use Rattle.own_table.specs.Order.{HasPart, ComeAfterParts, IsContainmentOrder, unless_settled, unsettled, first_of, first_unsettled, LeadsTo, IsPath, IsSettling, one_new, count_new}
 use Rattle.own_table.specs.Types.{all_case_types, contained, ContainsIn, NoneContainsItself}
-use Rattle.own_table.proofs.Members.{In, in_contains, contains_in, in_front, in_back, in_either}
-use Rattle.own_table.proofs.ByIndex.{set_same, set_other, get_front, get_pushed, get_push_cases, get_in, contains_get, get_contains}
+use Rattle.own_table.proofs.Members.{In, in_contains}
+use Rattle.own_table.proofs.ByIndex.{set_same, set_other, get_front, get_push_cases, contains_get}
 use Rattle.own_table.proofs.Whole.{got}
 
 -- ---- the first part that is not settled

@@ -1,5 +1,5 @@
 -- The slots of the types of a text that are within M8, and the first type that is not while its parts are.
-use Rattle.std.specs.Prelude.{◌≡◌, ℕ, zero, suc, ◌+◌, ◌<◌, ◌≤◌, max, nat_lt, nat_le, Contains, All, Bool, true, false, ◌||◌, if◌then◌else◌, List, [], ◌∷◌, length, slice_get, Option, Some, None}
+use Rattle.std.specs.Prelude.{◌≡◌, ℕ, suc, ◌+◌, ◌<◌, ◌≤◌, max, nat_lt, nat_le, All, Bool, true, false, ◌||◌, if◌then◌else◌, List, [], ◌∷◌, length, slice_get, Option, Some, None}
 use Rattle.own_tree.specs.declared.limits.TheConstants.{MOST_FIELDS, MOST_PARAMETERS, MOST_TYPE_SLOTS}
 use Rattle.own_tree.specs.declared.place.Ty.{Ty}
 use Rattle.own_tree.specs.declared.place.Ty.TheVariants as type
@@ -7,7 +7,7 @@ use Rattle.own_table.specs.declared.info.CaseInfo.{CaseInfo}
 use Rattle.own_table.specs.declared.info.TypeInfo.{TypeInfo}
 use Rattle.own_table.specs.declared.extent.Over.{Over}
 use Rattle.own_table.specs.Limits.{are_within}
-use Rattle.own_table.specs.Types.{Types, Shape, slots, one_if, contained, field_types, types_resolved}
+use Rattle.own_table.specs.Types.{Types, slots, one_if, contained, field_types, types_resolved}
 
 -- within M5 and M7
 pub record HasFewParts (t : TypeInfo) : Type 0 where

@@ -1,8 +1,7 @@
 -- Types of which a table can be made, as tests.
-use Rattle.std.specs.Prelude.{◌≡◌, ℕ, ◌≤◌, nat_le, Bool, false, ◌&&◌, List, length, Option, Some, None}
+use Rattle.std.specs.Prelude.{ℕ, nat_le, Bool, ◌&&◌, List, length}
 use Rattle.std.specs.List.{list_all}
 use Rattle.own_tree.specs.declared.limits.TheConstants.{MOST_TYPES, MOST_FIELDS, MOST_PARAMETERS}
-use Rattle.own_tree.specs.declared.place.Ty.{Ty}
 use Rattle.own_table.specs.declared.info.CaseInfo.{CaseInfo}
 use Rattle.own_table.specs.declared.info.TypeInfo.{TypeInfo}
 use Rattle.own_table.specs.Types.{contained, is_part}

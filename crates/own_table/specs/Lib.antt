@@ -5,6 +5,8 @@ pub mod Order
 pub mod Extents
 pub mod ByParts
 pub mod Fitting
+pub mod Numbers
+pub mod Resolving
 pub mod Unfit
 pub mod Settling
 pub mod Within

@@ -44,7 +44,7 @@ impl<T: Drop> From<AllocFailed<T>> for TableError {
 }
 
 /// Why types whose names are resolved have no table.
-#[derive(Clone, Copy, Debug)]
+#[derive(Clone, Copy, Debug, PartialEq, Eq)]
 pub enum Unfit {
     /// They are not within M4, M5 and M7, or a part of one is no type.
     Parts,

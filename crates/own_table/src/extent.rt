@@ -12,7 +12,7 @@ use own_tree::limits::MOST_TYPE_SLOTS;
 use std::alloc::{AllocError, Global};
 
 /// A type that is over M8 while all that it contains is within.
-#[derive(Clone, Copy, Debug)]
+#[derive(Clone, Copy, Debug, PartialEq, Eq)]
 pub struct Over {
     /// The number of the type.
     pub number: u32,

@@ -9,8 +9,12 @@ pub mod info;
 pub mod laws;
 mod mark;
 mod measure;
+mod names;
 mod order;
+mod resolve;
 pub mod table;
+#[cfg(test)]
+mod tests;
 
 pub use error::{TableError, Unfit};
 pub use extent::Over;

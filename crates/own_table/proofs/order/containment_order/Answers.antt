@@ -1,4 +1,4 @@
-use Rattle.std.proofs.Common.{◌≡◌, [], subst, arith}
+use Rattle.std.proofs.Common.{subst, arith}
 use Rattle.own_table.specs.Order.{IsSettling}
 use Rattle.own_table.proofs.Settled.{at_end}
 use Rattle.own_table.proofs.order.containment_order.Goals as goal

@@ -1,4 +1,4 @@
-use Rattle.std.proofs.Common.{◌≡◌, ◌+◌, drop, ap, sym, ◌∙◌}
+use Rattle.std.proofs.Common.{◌+◌, drop, ap, sym, ◌∙◌}
 use Rattle.own_table.specs.Order.{first_of, first_unsettled}
 use Rattle.own_table.specs.Types.{all_case_types}
 use Rattle.own_table.proofs.Settled.{first_in_cases}

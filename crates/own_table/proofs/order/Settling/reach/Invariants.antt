@@ -1,4 +1,4 @@
-use Rattle.std.proofs.Common.{◌≡◌, ◌≢◌, Some, slice_get}
+use Rattle.std.proofs.Common.{◌≢◌, Some, slice_get}
 use Rattle.own_table.specs.declared.mark.Mark.TheVariants as mark
 use Rattle.own_table.specs.Settling.{Settles, Keeps, work_of}
 use Rattle.own_table.proofs.order.Settling.reach.Given as goal
