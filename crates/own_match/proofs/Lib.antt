@@ -11,3 +11,4 @@ pub mod Steps
 pub mod Enums
 pub mod Taking
 pub mod Final
+pub mod Ordered

@@ -6,3 +6,4 @@ pub mod Inhabited
 pub mod Weights
 pub mod First
 pub mod Answers
+pub mod Laws

@@ -6,6 +6,11 @@ mod covering;
 mod found;
 mod head;
 mod inhabited;
+pub mod laws;
 mod search;
 
 pub use covering::cover;
+pub use laws::{first_missing_is_one, forms_are_apart, forms_are_ordered, values_have_forms};
+
+#[cfg(test)]
+mod tests;
