@@ -1,13 +1,11 @@
 -- What is over a limit, and which leaves are not ambiguous.
-use Rattle.std.proofs.Common.{◌≡◌, ℕ, zero, suc, ◌+◌, ◌<◌, ◌≤◌, Bool, true, false, List, [], ◌∷◌, length, Option, Some, None, inl, inr, refl, arith}
+use Rattle.std.proofs.Common.{◌≡◌, ℕ, zero, suc, ◌+◌, ◌<◌, Bool, true, false, List, [], ◌∷◌, length, Option, Some, None, inl, inr, refl, arith}
 use Rattle.std.specs.Prelude.{nat_lt, slice_get}
 use Rattle.std.proofs.lemmas.Bool.{ltb-true}
-use Rattle.own_tree.specs.declared.graph.LeafFact.TheVariants as fact
 use Rattle.own_tree.specs.declared.limits.TheConstants.{MOST_TYPES, MOST_FIELDS, MOST_BODIES, MOST_PARAMETERS, MOST_TYPE_SLOTS, MOST_BODY_SLOTS, MOST_BODY_OPS, MOST_BODY_LEAVES, MOST_BODY_MAKERS, MOST_OPS}
 use Rattle.own_tree.specs.declared.span.Span.{Span}
 use Rattle.own_tree.specs.TypedSource.{TBody, Program}
 use Rattle.own_table.specs.BodyLimits.{body_slots, op_count, maker_count, passing_body, sum_of_ops}
-use Rattle.own_table.specs.Facts.{IsFact, Destroys, IsAmbiguous}
 use Rattle.own_table.specs.Limits.{Counted, counted, first_over, too_many, type_names, part_counts, body_places, declared_parts, taken_counts, slot_counts}
 use Rattle.own_table.specs.Laws.{IsOver, LimitsAreExceeded, SettledLeavesAreNotAmbiguous}
 use Rattle.own_table.specs.Makers.{tree_of, uses_of}

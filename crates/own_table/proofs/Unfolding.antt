@@ -1,6 +1,6 @@
 -- The shape of a declared type is that of its declaration, by the shapes of what it contains, where no type contains
 -- itself: the unfolding goes as deep as there are types.
-use Rattle.std.proofs.Common.{◌≡◌, ℕ, zero, suc, ◌+◌, ◌<◌, ◌≤◌, ◌⊎◌, Bool, true, false, ◌||◌, List, [], ◌∷◌, length, map, slice_get, Option, Some, None, inl, inr, refl, sym, ap, ◌∙◌, subst, arith}
+use Rattle.std.proofs.Common.{◌≡◌, ℕ, zero, suc, ◌+◌, ◌<◌, ◌≤◌, ◌⊎◌, Bool, true, false, ◌||◌, List, [], ◌∷◌, length, slice_get, Option, Some, None, inl, inr, refl, sym, ap, ◌∙◌, subst, arith}
 use Rattle.std.specs.Prelude.{Contains, if◌then◌else◌, eqb}
 use Rattle.std.specs.List.{IsDistinct, list_any, AllByRecursion}
 use Rattle.std.proofs.lemmas.Bool.Decides.{eqb_tells}
@@ -9,9 +9,10 @@ use Rattle.std.proofs.lemmas.Map.Steps.{length-le_from_distinct_below}
 use Rattle.std.proofs.lemmas.Option.{slice_get_within}
 use Rattle.own_tree.specs.declared.place.Ty.{Ty}
 use Rattle.own_tree.specs.declared.place.Ty.TheVariants as type
-use Rattle.own_tree.specs.declared.tree.CaseItem.{CaseItem}
+use Rattle.own_table.specs.declared.info.CaseInfo.{CaseInfo}
+use Rattle.own_table.specs.declared.info.TypeInfo.{TypeInfo}
 use Rattle.own_table.specs.Laws.{ShapesUnfold}
-use Rattle.own_table.specs.Types.{Shape, shape, payloads, struct, enum, Declared, shapes_of, payloads_of, field_types, case_types, all_case_types, contained, head_of, declared_shape, shape_of_declared, unfolded, types_declared, ContainsIn, NoneContainsItself}
+use Rattle.own_table.specs.Types.{Shape, shape, payloads, struct, enum, shapes_of, payloads_of, field_types, case_types, all_case_types, contained, head_of, declared_shape, shape_of_declared, unfolded, ContainsIn, NoneContainsItself}
 use Rattle.own_table.proofs.Members.{In, in_front, in_back, contains_in}
 
 -- ---- the unfolding of a type ends within so many levels
@@ -19,17 +20,17 @@ use Rattle.own_table.proofs.Members.{In, in_front, in_back, contains_in}
 abbrev EachIn : (Ty → Type 0) → List Ty → Type 0
 EachIn P tys = (ty : Ty) → In tys ty → P ty
 
-abbrev EndsAt : List Declared → (Ty → Type 0) → Option Declared → Type 0
-EndsAt ds P None = Unit {0}
-EndsAt ds P (Some d) = EachIn P (contained ds d)
+abbrev EndsAt : (Ty → Type 0) → Option TypeInfo → Type 0
+EndsAt P None = Unit {0}
+EndsAt P (Some d) = EachIn P (contained d)
 
-abbrev Ends : List Declared → ℕ → Ty → Type 0
+abbrev Ends : List TypeInfo → ℕ → Ty → Type 0
 Ends ds zero ty = ⊥
 Ends ds (suc n) type.Int = Unit {0}
 Ends ds (suc n) type.Bool = Unit {0}
 Ends ds (suc n) type.Unit = Unit {0}
 Ends ds (suc n) (type.Fun k) = Unit {0}
-Ends ds (suc n) (type.Named k) = EndsAt ds (Ends ds n) (slice_get ds k)
+Ends ds (suc n) (type.Named k) = EndsAt (Ends ds n) (slice_get ds k)
 
 -- ---- more levels make no difference then
 
@@ -41,26 +42,26 @@ module _ (f g : Ty → Shape) where
   shapes_same [] all = refl
   shapes_same (ty ∷ tys) all = ap (λ s. shape s (shapes_of f tys)) (all ty (inl refl)) ∙ ap (shape (g ty)) (shapes_same tys (λ t i. all t (inr i)))
 
-  payloads_same : (ds : List Declared) (cs : List CaseItem) → EachIn Same (all_case_types ds cs) → payloads_of f (map (case_types ds) cs) ≡ payloads_of g (map (case_types ds) cs)
-  payloads_same ds [] all = refl
-  payloads_same ds (c ∷ cs) all =
-      ap (λ s. payloads s (payloads_of f (map (case_types ds) cs))) (shapes_same (case_types ds c) (λ t i. all t (in_front (case_types ds c) (all_case_types ds cs) t i)))
-      ∙ ap (payloads (shapes_of g (case_types ds c))) (payloads_same ds cs (λ t i. all t (in_back (case_types ds c) (all_case_types ds cs) t i)))
+  payloads_same : (cs : List CaseInfo) → EachIn Same (all_case_types cs) → payloads_of f (case_types cs) ≡ payloads_of g (case_types cs)
+  payloads_same [] all = refl
+  payloads_same (c ∷ cs) all =
+      ap (λ s. payloads s (payloads_of f (case_types cs))) (shapes_same c.payloads (λ t i. all t (in_front c.payloads (all_case_types cs) t i)))
+      ∙ ap (payloads (shapes_of g c.payloads)) (payloads_same cs (λ t i. all t (in_back c.payloads (all_case_types cs) t i)))
 
-  declared_same : (ds : List Declared) (k : ℕ) (d : Declared) → EachIn Same (contained ds d) → declared_shape ds f k d ≡ declared_shape ds g k d
-  declared_same ds k d all = by_kind d.is_enum refl
+  declared_same : (k : ℕ) (d : TypeInfo) → EachIn Same (contained d) → declared_shape f k d ≡ declared_shape g k d
+  declared_same k d all = by_kind d.is_enum refl
     where
-      by_kind : (b : Bool) → d.is_enum ≡ b → declared_shape ds f k d ≡ declared_shape ds g k d
+      by_kind : (b : Bool) → d.is_enum ≡ b → declared_shape f k d ≡ declared_shape g k d
       by_kind true e =
-          ap (λ b. if b then enum (head_of k d) (payloads_of f (map (case_types ds) d.cases)) else struct (head_of k d) (shapes_of f (field_types ds d))) e
-          ∙ ap (enum (head_of k d)) (payloads_same ds d.cases (subst (λ b. EachIn Same (if b then all_case_types ds d.cases else field_types ds d)) e all))
-          ∙ sym (ap (λ b. if b then enum (head_of k d) (payloads_of g (map (case_types ds) d.cases)) else struct (head_of k d) (shapes_of g (field_types ds d))) e)
+          ap (λ b. if b then enum (head_of k d) (payloads_of f (case_types d.cases)) else struct (head_of k d) (shapes_of f (field_types d.fields))) e
+          ∙ ap (enum (head_of k d)) (payloads_same d.cases (subst (λ b. EachIn Same (if b then all_case_types d.cases else field_types d.fields)) e all))
+          ∙ sym (ap (λ b. if b then enum (head_of k d) (payloads_of g (case_types d.cases)) else struct (head_of k d) (shapes_of g (field_types d.fields))) e)
       by_kind false e =
-          ap (λ b. if b then enum (head_of k d) (payloads_of f (map (case_types ds) d.cases)) else struct (head_of k d) (shapes_of f (field_types ds d))) e
-          ∙ ap (struct (head_of k d)) (shapes_same (field_types ds d) (subst (λ b. EachIn Same (if b then all_case_types ds d.cases else field_types ds d)) e all))
-          ∙ sym (ap (λ b. if b then enum (head_of k d) (payloads_of g (map (case_types ds) d.cases)) else struct (head_of k d) (shapes_of g (field_types ds d))) e)
+          ap (λ b. if b then enum (head_of k d) (payloads_of f (case_types d.cases)) else struct (head_of k d) (shapes_of f (field_types d.fields))) e
+          ∙ ap (struct (head_of k d)) (shapes_same (field_types d.fields) (subst (λ b. EachIn Same (if b then all_case_types d.cases else field_types d.fields)) e all))
+          ∙ sym (ap (λ b. if b then enum (head_of k d) (payloads_of g (case_types d.cases)) else struct (head_of k d) (shapes_of g (field_types d.fields))) e)
 
-module _ (ds : List Declared) where
+module _ (ds : List TypeInfo) where
   stable : (m n : ℕ) → m ≤ n → (ty : Ty) → Ends ds m ty → unfolded ds m ty ≡ unfolded ds n ty
   stable zero n le ty e = absurd e
   stable (suc m) zero le ty e = absurd (omega (arith, le))
@@ -70,10 +71,10 @@ module _ (ds : List Declared) where
   stable (suc m) (suc n) le (type.Fun k) e = refl
   stable (suc m) (suc n) le (type.Named k) e = at_declared (slice_get ds k) (stable m n (omega (arith, le))) e
     where
-      at_declared : (o : Option Declared) → ((ty : Ty) → Ends ds m ty → unfolded ds m ty ≡ unfolded ds n ty) → EndsAt ds (Ends ds m) o
-          → shape_of_declared ds (unfolded ds m) k o ≡ shape_of_declared ds (unfolded ds n) k o
+      at_declared : (o : Option TypeInfo) → ((ty : Ty) → Ends ds m ty → unfolded ds m ty ≡ unfolded ds n ty) → EndsAt (Ends ds m) o
+          → shape_of_declared (unfolded ds m) k o ≡ shape_of_declared (unfolded ds n) k o
       at_declared None same h = refl
-      at_declared (Some d) same h = declared_same (unfolded ds m) (unfolded ds n) ds k d (λ ty i. same ty (h ty i))
+      at_declared (Some d) same h = declared_same (unfolded ds m) (unfolded ds n) k d (λ ty i. same ty (h ty i))
 
 -- ---- a way down through different types
 
@@ -110,7 +111,7 @@ found_in j (k ∷ ks) e = elim (eqb_tells j k) [
   | inr other ↦ inr (found_in j ks (subst (λ b. (b || list_any (eqb j) ks) ≡ true) other.0 e))
 ]
 
-module _ (ds : List Declared) (none : NoneContainsItself ds) where
+module _ (ds : List TypeInfo) (none : NoneContainsItself ds) where
   -- types of the text, no two alike, of which each contains the first
   record Way (k : ℕ) (rest : List ℕ) : Type 0 where
     distinct : IsDistinct eqb (k ∷ rest)
@@ -120,11 +121,11 @@ module _ (ds : List Declared) (none : NoneContainsItself ds) where
   way_length : (k : ℕ) (rest : List ℕ) → Way k rest → length (k ∷ rest) ≤ length ds
   way_length k rest way = length-le_from_distinct_below (k ∷ rest) (length ds) way.distinct (λ q e. way.declared q (found_in q (k ∷ rest) e))
 
-  one_more : (steps j k i : ℕ) (d : Declared) → ContainsIn ds steps j k → slice_get ds k ≡ Some d → Contains (contained ds d) (type.Named i) → ContainsIn ds (suc steps) j i
+  one_more : (steps j k i : ℕ) (d : TypeInfo) → ContainsIn ds steps j k → slice_get ds k ≡ Some d → Contains (contained d) (type.Named i) → ContainsIn ds (suc steps) j i
   one_more zero j k i d h e c = (d, i, subst (λ x. slice_get ds x ≡ Some d) (sym h) e, c, refl)
   one_more (suc steps) j k i d h e c = (h.0, h.1, h.2, h.3, one_more steps h.1 k i d h.4 e c)
 
-  longer : (k i : ℕ) (rest : List ℕ) (d e : Declared) → Way k rest → slice_get ds k ≡ Some d → In (contained ds d) (type.Named i) → slice_get ds i ≡ Some e → Way i (k ∷ rest)
+  longer : (k i : ℕ) (rest : List ℕ) (d e : TypeInfo) → Way k rest → slice_get ds k ≡ Some d → In (contained d) (type.Named i) → slice_get ds i ≡ Some e → Way i (k ∷ rest)
   longer k i rest d e way at part is = record {
     distinct = IsDistinct-cons eqb i (k ∷ rest) (apart_from i (k ∷ rest) (λ h. none (way.leads i h).0 i (one_more (way.leads i h).0 i k i d (way.leads i h).1 at (contains_in _ _ part)))) way.distinct;
     declared = declared;
@@ -143,8 +144,8 @@ module _ (ds : List Declared) (none : NoneContainsItself ds) where
   ends zero k rest way room = absurd (omega (arith, room, way_length k rest way))
   ends (suc n) k rest way room = at_declared (slice_get ds k) refl (ends n)
     where
-      part_ends : (m : ℕ) (d : Declared) → slice_get ds k ≡ Some d → suc (suc (length ds)) ≤ suc m + length (k ∷ rest)
-          → ((i : ℕ) (r : List ℕ) → Way i r → suc (suc (length ds)) ≤ m + length (i ∷ r) → Ends ds m (type.Named i)) → (ty : Ty) → In (contained ds d) ty → Ends ds m ty
+      part_ends : (m : ℕ) (d : TypeInfo) → slice_get ds k ≡ Some d → suc (suc (length ds)) ≤ suc m + length (k ∷ rest)
+          → ((i : ℕ) (r : List ℕ) → Way i r → suc (suc (length ds)) ≤ m + length (i ∷ r) → Ends ds m (type.Named i)) → (ty : Ty) → In (contained d) ty → Ends ds m ty
       part_ends zero d e room' deeper ty i = absurd (omega (arith, room', way_length k rest way))
       part_ends (suc m) d e room' deeper type.Int i = tt
       part_ends (suc m) d e room' deeper type.Bool i = tt
@@ -152,16 +153,16 @@ module _ (ds : List Declared) (none : NoneContainsItself ds) where
       part_ends (suc m) d e room' deeper (type.Fun x) i = tt
       part_ends (suc m) d e room' deeper (type.Named x) i = by_declared (slice_get ds x) refl
         where
-          by_declared : (o : Option Declared) → slice_get ds x ≡ o → Ends ds (suc m) (type.Named x)
-          by_declared None f = subst (EndsAt ds (Ends ds m)) (sym f) tt
+          by_declared : (o : Option TypeInfo) → slice_get ds x ≡ o → Ends ds (suc m) (type.Named x)
+          by_declared None f = subst (EndsAt (Ends ds m)) (sym f) tt
           by_declared (Some c) f = deeper x (k ∷ rest) (longer k x rest d c way e i f) (omega (arith, room'))
 
-      at_declared : (o : Option Declared) → slice_get ds k ≡ o
+      at_declared : (o : Option TypeInfo) → slice_get ds k ≡ o
           → ((i : ℕ) (r : List ℕ) → Way i r → suc (suc (length ds)) ≤ n + length (i ∷ r) → Ends ds n (type.Named i)) → Ends ds (suc n) (type.Named k)
-      at_declared None e deeper = subst (EndsAt ds (Ends ds n)) (sym e) tt
-      at_declared (Some d) e deeper = subst (EndsAt ds (Ends ds n)) (sym e) (part_ends n d e room deeper)
+      at_declared None e deeper = subst (EndsAt (Ends ds n)) (sym e) tt
+      at_declared (Some d) e deeper = subst (EndsAt (Ends ds n)) (sym e) (part_ends n d e room deeper)
 
-  declared_ends : (k : ℕ) (d : Declared) → slice_get ds k ≡ Some d → Ends ds (suc (length ds)) (type.Named k)
+  declared_ends : (k : ℕ) (d : TypeInfo) → slice_get ds k ≡ Some d → Ends ds (suc (length ds)) (type.Named k)
   unfolding IsDistinct
   declared_ends k d e = ends (suc (length ds)) k [] (record { distinct = IsDistinct-cons eqb k [] tt tt; declared = declared; leads = leads }) (omega arith)
     where
@@ -174,10 +175,9 @@ module _ (ds : List Declared) (none : NoneContainsItself ds) where
       leads j (inr h) = absurd h
 
 pub shapes_unfold : ShapesUnfold
-unfolding types_declared
 shapes_unfold ds none k d e =
-    ap (shape_of_declared ds (unfolded ds (length ds)) k) e
-    ∙ declared_same (unfolded ds (length ds)) (unfolded ds (suc (length ds))) ds k d (λ ty i. stable ds (length ds) (suc (length ds)) (omega arith) ty (parts_end ty i))
+    ap (shape_of_declared (unfolded ds (length ds)) k) e
+    ∙ declared_same (unfolded ds (length ds)) (unfolded ds (suc (length ds))) k d (λ ty i. stable ds (length ds) (suc (length ds)) (omega arith) ty (parts_end ty i))
   where
-    parts_end : EachIn (Ends ds (length ds)) (contained ds d)
-    parts_end = subst (EndsAt ds (Ends ds (length ds))) e (declared_ends ds none k d e)
+    parts_end : EachIn (Ends ds (length ds)) (contained d)
+    parts_end = subst (EndsAt (Ends ds (length ds))) e (declared_ends ds none k d e)

@@ -22,7 +22,8 @@ use Rattle.own_table.specs.Makers.{BodyUses, uses_of}
 use Rattle.own_table.specs.Ops.{has_result}
 use Rattle.own_table.specs.Places.{is_prefix, covers, PlaceBefore}
 use Rattle.own_table.specs.Traces.{Completion, goes_on, breaks, continues, returns, halts, cut, IsTrace}
-use Rattle.own_table.specs.Types.{Types, Shape, Shapes, leaves, opened_leaves, slots, all_slots, shape_at, Declared, declared_shape, types_declared, NoneContainsItself}
+use Rattle.own_table.specs.declared.info.TypeInfo.{TypeInfo}
+use Rattle.own_table.specs.Types.{Types, Shape, Shapes, leaves, opened_leaves, slots, all_slots, shape_at, declared_shape, types_resolved, NoneContainsItself}
 
 -- ---- orders
 
@@ -44,8 +45,8 @@ FindingsAreOrdered = IsOrder Precedes IsSameBreak
 -- where no type contains itself, a declared type has the shape of its declaration, by the shapes of what it contains
 abbrev pub ShapesUnfold : Type 0
 ShapesUnfold =
-    (ds : List Declared) → NoneContainsItself ds → (k : ℕ) (d : Declared) → slice_get ds k ≡ Some d
-    → (types_declared ds).shape (type.Named k) ≡ declared_shape ds (types_declared ds).shape k d
+    (ts : List TypeInfo) → NoneContainsItself ts → (k : ℕ) (t : TypeInfo) → slice_get ts k ≡ Some t
+    → (types_resolved ts).shape (type.Named k) ≡ declared_shape (types_resolved ts).shape k t
 
 -- no leaf of a type lies at or below another one
 abbrev pub LeavesAreApart : Type 0

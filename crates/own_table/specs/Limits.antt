@@ -11,7 +11,7 @@ use Rattle.own_tree.specs.declared.tree.Root.{Root}
 use Rattle.own_tree.specs.declared.tree.Root.TheVariants as root
 use Rattle.own_tree.specs.Source.{Exp, number, text, truth, path, implicit_member, parenthesized, consumed, prefix, binary, choice, member, call, call_closing, call_closure, Given, value, address, closing, Args, no_args, arg, Clo, closure, Stm, let_in, declare, assign, ignore, discard_self, if_then, if_else, else_if, loop_while, loop_repeat, loop_for, switch, leave, go_on, return_none, return_value, evaluate, Stms, no_stms, stm, When, case_of, case_where, default, Clauses, no_clauses, clause, Blk, block, Fun, Member, field, initializer, deinitializer, method, cases, Decl, struct_of, enum_of, function, File}
 use Rattle.own_table.specs.Ops.{opening}
-use Rattle.own_table.specs.Types.{Types, Declared, declared_types, contained, slots}
+use Rattle.own_table.specs.Types.{Types, Declared, declared_types, resolved, contained, slots}
 
 -- a count, and the place that is named where it is too large
 pub record Counted : Type 0 where
@@ -50,7 +50,7 @@ are_within types largest (ty ∷ tys) = nat_le (slots (types.shape ty)) largest 
 abbrev pub slot_counts : Types → ℕ → List Declared → ℕ → List Declared → List Counted
 slot_counts types largest all k [] = []
 slot_counts types largest all k (d ∷ ds) =
-    if are_within types largest (contained all d) then counted (slots (types.shape (type.Named k))) d.name.span ∷ slot_counts types largest all (suc k) ds
+    if are_within types largest (contained (resolved all d)) then counted (slots (types.shape (type.Named k))) d.name.span ∷ slot_counts types largest all (suc k) ds
     else slot_counts types largest all (suc k) ds
 
 -- ---- M6 and M7: bodies and what they take, cases and calls of `print`, in order of the text

@@ -1,5 +1,6 @@
 -- What types are made of: by recursion on the declarations of a text, and then on the shape that a type unfolds to.
-use Rattle.std.specs.Prelude.{◌≡◌, ℕ, zero, suc, ◌+◌, max, Contains, Bool, true, false, not, ◌||◌, if◌then◌else◌, List, [], ◌∷◌, ◌++◌, length, map, slice_get, slice_index_or, Option, Some, None, codes}
+use Rattle.std.specs.Prelude.{◌≡◌, ℕ, zero, suc, ◌+◌, ◌<◌, max, nat_lt, Contains, IsTrue, Bool, true, false, not, ◌||◌, if◌then◌else◌, List, [], ◌∷◌, ◌++◌, length, map, slice_get, slice_index_or, Option, Some, None, codes}
+use Rattle.std.specs.List.{list_all}
 use Rattle.std.specs.Str.{bytes_eq}
 use Rattle.own_tree.specs.declared.place.Ty.{Ty}
 use Rattle.own_tree.specs.declared.place.Ty.TheVariants as type
@@ -8,6 +9,9 @@ use Rattle.own_tree.specs.declared.tree.Field.{Field}
 use Rattle.own_tree.specs.declared.tree.Keyword.{Keyword}
 use Rattle.own_tree.specs.declared.tree.Keyword.TheVariants as keyword
 use Rattle.own_tree.specs.declared.tree.Name.{Name}
+use Rattle.own_table.specs.declared.info.FieldInfo.{FieldInfo}
+use Rattle.own_table.specs.declared.info.CaseInfo.{CaseInfo}
+use Rattle.own_table.specs.declared.info.TypeInfo.{TypeInfo}
 use Rattle.own_tree.specs.Source.{Member, field, initializer, deinitializer, method, cases, Decl, struct_of, enum_of, function, File}
 
 -- ---- shapes: a type with all that it contains, which is finite, since no type contains itself
@@ -165,22 +169,11 @@ shape_in s (k ∷ ks) = shape_in (property_shape s k) ks
 
 -- ---- the types of a text
 
--- a stored property, and whether it is a `var`
-pub record Property : Type 0 where
-  pub name : List ℕ
-  pub ty : Ty
-  pub changes : Bool
-
--- a case of an enum
-pub record EnumCase : Type 0 where
-  pub name : List ℕ
-  pub payloads : List Ty
-
 -- What a program knows of its types. The properties and the cases of a type that has none are the empty list.
 pub record Types : Type 0 where
   pub shape : Ty → Shape
-  pub properties : Ty → List Property
-  pub cases : Ty → List EnumCase
+  pub properties : Ty → List FieldInfo
+  pub cases : Ty → List CaseInfo
   pub is_enum : Ty → Bool
   -- the name of a declared type
   pub name : Ty → List ℕ
@@ -262,86 +255,137 @@ abbrev pub payloads_of : (Ty → Shape) → List (List Ty) → Payloads
 payloads_of shape_of [] = no_payloads
 payloads_of shape_of (tys ∷ cs) = payloads (shapes_of shape_of tys) (payloads_of shape_of cs)
 
-abbrev pub field_types : List Declared → Declared → List Ty
-field_types ds d = map (λ f. written_type ds f.written.text) d.fields
+-- ---- the declarations, with each name resolved
 
-abbrev pub case_types : List Declared → CaseItem → List Ty
-case_types ds c = map (λ name. written_type ds name.text) c.payloads
+-- by what a written name stands for
+abbrev pub resolved_field : (List ℕ → Ty) → Field → FieldInfo
+resolved_field type_of f = record { name = f.name.text; ty = type_of f.written.text; changes = is_var f.keyword }
 
-abbrev pub all_case_types : List Declared → List CaseItem → List Ty
-all_case_types ds [] = []
-all_case_types ds (c ∷ cs) = case_types ds c ++ all_case_types ds cs
+abbrev pub resolved_case : (List ℕ → Ty) → CaseItem → CaseInfo
+resolved_case type_of c = record { name = c.name.text; payloads = map (λ name. type_of name.text) c.payloads }
+
+abbrev pub resolved_by : (List ℕ → Ty) → Declared → TypeInfo
+resolved_by type_of d = record {
+  name = d.name.text;
+  is_enum = d.is_enum;
+  noncopyable = d.noncopyable;
+  has_deinit = d.has_deinit;
+  fields = map (resolved_field type_of) d.fields;
+  cases = map (resolved_case type_of) d.cases;
+}
+
+abbrev pub resolved : List Declared → Declared → TypeInfo
+resolved ds d = resolved_by (written_type ds) d
+
+abbrev pub resolved_types : List Declared → List TypeInfo
+resolved_types ds = map (resolved ds) ds
+
+-- ---- what resolved declarations say of their types
+
+abbrev pub field_types : List FieldInfo → List Ty
+field_types fields = map (λ f. f.ty) fields
+
+abbrev pub case_types : List CaseInfo → List (List Ty)
+case_types cs = map (λ c. c.payloads) cs
+
+abbrev pub all_case_types : List CaseInfo → List Ty
+all_case_types [] = []
+all_case_types (c ∷ cs) = c.payloads ++ all_case_types cs
 
 -- the types that a type contains at once
-abbrev pub contained : List Declared → Declared → List Ty
-contained ds d = if d.is_enum then all_case_types ds d.cases else field_types ds d
+abbrev pub contained : TypeInfo → List Ty
+contained t = if t.is_enum then all_case_types t.cases else field_types t.fields
 
-abbrev pub head_of : ℕ → Declared → TypeHead
-head_of k d = record { number = k; noncopyable = d.noncopyable; has_deinit = d.has_deinit; changes = map (λ f. is_var f.keyword) d.fields }
+abbrev pub head_of : ℕ → TypeInfo → TypeHead
+head_of k t = record { number = k; noncopyable = t.noncopyable; has_deinit = t.has_deinit; changes = map (λ f. f.changes) t.fields }
 
 -- a declared type, by the shapes of what it contains
-abbrev pub declared_shape : List Declared → (Ty → Shape) → ℕ → Declared → Shape
-declared_shape ds shape_of k d =
-    if d.is_enum then enum (head_of k d) (payloads_of shape_of (map (case_types ds) d.cases))
-    else struct (head_of k d) (shapes_of shape_of (field_types ds d))
+abbrev pub declared_shape : (Ty → Shape) → ℕ → TypeInfo → Shape
+declared_shape shape_of k t =
+    if t.is_enum then enum (head_of k t) (payloads_of shape_of (case_types t.cases))
+    else struct (head_of k t) (shapes_of shape_of (field_types t.fields))
 
-abbrev pub shape_of_declared : List Declared → (Ty → Shape) → ℕ → Option Declared → Shape
-shape_of_declared ds shape_of k None = no_value
-shape_of_declared ds shape_of k (Some d) = declared_shape ds shape_of k d
+abbrev pub shape_of_declared : (Ty → Shape) → ℕ → Option TypeInfo → Shape
+shape_of_declared shape_of k None = no_value
+shape_of_declared shape_of k (Some t) = declared_shape shape_of k t
 
 -- A type unfolded so many levels deep. As deep as there are types, and one level more, reaches the last part of
 -- each that does not contain itself, as T03 asks.
-abbrev pub unfolded : List Declared → ℕ → Ty → Shape
-unfolded ds zero ty = no_value
-unfolded ds (suc depth) type.Int = number
-unfolded ds (suc depth) type.Bool = truth
-unfolded ds (suc depth) type.Unit = no_value
-unfolded ds (suc depth) (type.Fun k) = closure
-unfolded ds (suc depth) (type.Named k) = shape_of_declared ds (unfolded ds depth) k (slice_get ds k)
+abbrev pub unfolded : List TypeInfo → ℕ → Ty → Shape
+unfolded ts zero ty = no_value
+unfolded ts (suc depth) type.Int = number
+unfolded ts (suc depth) type.Bool = truth
+unfolded ts (suc depth) type.Unit = no_value
+unfolded ts (suc depth) (type.Fun k) = closure
+unfolded ts (suc depth) (type.Named k) = shape_of_declared (unfolded ts depth) k (slice_get ts k)
 
 -- the declaration of a type, of one that is declared
-abbrev pub declaration : List Declared → Ty → Option Declared
-declaration ds type.Int = None
-declaration ds type.Bool = None
-declaration ds type.Unit = None
-declaration ds (type.Fun k) = None
-declaration ds (type.Named k) = slice_get ds k
+abbrev pub declaration : List TypeInfo → Ty → Option TypeInfo
+declaration ts type.Int = None
+declaration ts type.Bool = None
+declaration ts type.Unit = None
+declaration ts (type.Fun k) = None
+declaration ts (type.Named k) = slice_get ts k
 
-abbrev pub properties_of : List Declared → Option Declared → List Property
-properties_of ds None = []
-properties_of ds (Some d) = map (λ f. record { name = f.name.text; ty = written_type ds f.written.text; changes = is_var f.keyword }) d.fields
+abbrev pub declared_fields : Option TypeInfo → List FieldInfo
+declared_fields None = []
+declared_fields (Some t) = t.fields
 
-abbrev pub enum_cases_of : List Declared → Option Declared → List EnumCase
-enum_cases_of ds None = []
-enum_cases_of ds (Some d) = map (λ c. record { name = c.name.text; payloads = case_types ds c }) d.cases
+abbrev pub declared_cases : Option TypeInfo → List CaseInfo
+declared_cases None = []
+declared_cases (Some t) = t.cases
 
-abbrev pub declares_enum : Option Declared → Bool
+abbrev pub declares_enum : Option TypeInfo → Bool
 declares_enum None = false
-declares_enum (Some d) = d.is_enum
+declares_enum (Some t) = t.is_enum
 
-abbrev pub declared_name : Option Declared → List ℕ
+abbrev pub declared_name : Option TypeInfo → List ℕ
 declared_name None = []
-declared_name (Some d) = d.name.text
+declared_name (Some t) = t.name
+
+abbrev pub types_resolved : List TypeInfo → Types
+types_resolved ts = record {
+  shape = unfolded ts (suc (length ts));
+  properties = λ ty. declared_fields (declaration ts ty);
+  cases = λ ty. declared_cases (declaration ts ty);
+  is_enum = λ ty. declares_enum (declaration ts ty);
+  name = λ ty. declared_name (declaration ts ty);
+  count = length ts;
+}
 
 unfoldable pub types_declared : List Declared → Types
-types_declared ds = record {
-  shape = unfolded ds (suc (length ds));
-  properties = λ ty. properties_of ds (declaration ds ty);
-  cases = λ ty. enum_cases_of ds (declaration ds ty);
-  is_enum = λ ty. declares_enum (declaration ds ty);
-  name = λ ty. declared_name (declaration ds ty);
-  count = length ds;
-}
+types_declared ds = types_resolved (resolved_types ds)
 
 unfoldable pub types_of : File → Types
 types_of file = types_declared (declared_types file.declarations)
 
--- ---- no type contains itself (T03)
+-- ---- types of the text, and what they contain
+
+-- it is declared, or none of the declared types
+abbrev pub IsType : ℕ → Ty → Type 0
+IsType count type.Int = Unit {0}
+IsType count type.Bool = Unit {0}
+IsType count type.Unit = Unit {0}
+IsType count (type.Fun k) = Unit {0}
+IsType count (type.Named k) = k < count
+
+-- what a stored property or a payload may be of: `Int`, `Bool` or a declared type
+abbrev pub is_part : ℕ → Ty → Bool
+is_part count type.Int = true
+is_part count type.Bool = true
+is_part count type.Unit = false
+is_part count (type.Fun k) = false
+is_part count (type.Named k) = nat_lt k count
+
+-- each written type is one of these (T01)
+abbrev pub PartsAreTypes : List TypeInfo → Type 0
+PartsAreTypes ts = (k : ℕ) (t : TypeInfo) → slice_get ts k ≡ Some t → IsTrue (list_all (is_part (length ts)) (contained t))
 
 -- one type contains another in so many steps from part to part
-abbrev pub ContainsIn : List Declared → ℕ → ℕ → ℕ → Type 0
-ContainsIn ds zero j k = j ≡ k
-ContainsIn ds (suc steps) j k = (d : Declared) × (i : ℕ) × (slice_get ds j ≡ Some d) × Contains (contained ds d) (type.Named i) × ContainsIn ds steps i k
+abbrev pub ContainsIn : List TypeInfo → ℕ → ℕ → ℕ → Type 0
+ContainsIn ts zero j k = j ≡ k
+ContainsIn ts (suc steps) j k = (t : TypeInfo) × (i : ℕ) × (slice_get ts j ≡ Some t) × Contains (contained t) (type.Named i) × ContainsIn ts steps i k
 
-abbrev pub NoneContainsItself : List Declared → Type 0
-NoneContainsItself ds = (steps k : ℕ) → ContainsIn ds (suc steps) k k → ⊥
+-- no type contains itself (T03)
+abbrev pub NoneContainsItself : List TypeInfo → Type 0
+NoneContainsItself ts = (steps k : ℕ) → ContainsIn ts (suc steps) k k → ⊥

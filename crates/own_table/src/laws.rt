@@ -1,6 +1,13 @@
 //! Laws of the definitions. Each function does nothing; its contract is the law.
 
 ghost use Rattle.own_table.specs.Laws.{FindingsAreOneList, FindingsAreOrdered, FindingsHaveOneCause, FixedFindingsAreOneList, LeavesAreApart, LeavesHaveOneFact, LimitsAreExceeded, OpenedLeavesAreApart, PartsAreNoLarger, PartsOfLeavesHaveNone, PathFindingsAreOneList, PlacesAreOrdered, SettledLeavesAreNotAmbiguous, ShapesUnfold, SoundBreaksNothing, TracesExist, TracesGoOn, TracesSplit, TracesStay};
+ghost use Rattle.own_table.specs.Table.{TablesAreWhole};
+
+/// In a table a declared type has the shape of its declaration, and all that it contains is a type of
+/// the table.
+pub fn tables_are_whole()
+    ensures { TablesAreWhole }
+{}
 
 /// Where no type contains itself, a declared type has the shape of its declaration.
 pub fn shapes_unfold()

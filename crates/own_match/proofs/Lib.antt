@@ -1,0 +1,14 @@
+pub mod Worked
+pub mod Tuples
+pub mod Order
+pub mod Narrow
+pub mod Exact
+pub mod Columns
+pub mod Patterns
+pub mod Inhabiting
+pub mod Covered
+pub mod Steps
+pub mod Enums
+pub mod Taking
+pub mod Final
+pub mod Ordered

@@ -1,0 +1,22 @@
+-- What is proved of these definitions, for contracts to cite.
+use Rattle.std.specs.Prelude.{◌≡◌, ◌⊎◌, List}
+use Rattle.own_tree.specs.TypedSource.{TPat}
+use Rattle.own_table.specs.Types.{Shape}
+use Rattle.own_match.specs.Values.{Val, IsOf}
+use Rattle.own_match.specs.Forms.{IsForm, StandsFor, ComesBefore, IsMissing, IsFirst}
+
+-- each value of a type has a form that stands for it
+abbrev pub ValuesHaveForms : Type 0
+ValuesHaveForms = (s : Shape) (ps : List TPat) (v : Val) → IsOf s v → (f : TPat) × IsForm s ps f × StandsFor ps f v
+
+-- of two forms of a type that are not the same, one comes before the other
+abbrev pub FormsAreOrdered : Type 0
+FormsAreOrdered = (s : Shape) (ps : List TPat) (f g : TPat) → IsForm s ps f → IsForm s ps g → ComesBefore f g ⊎ ((f ≡ g) ⊎ ComesBefore g f)
+
+-- no form comes before itself
+abbrev pub FormsAreApart : Type 0
+FormsAreApart = (f : TPat) → ComesBefore f f → ⊥
+
+-- one form at most is the first that is missing
+abbrev pub FirstMissingIsOne : Type 0
+FirstMissingIsOne = (s : Shape) (ps : List TPat) (f g : TPat) → IsMissing s ps f → IsFirst s ps f → IsMissing s ps g → IsFirst s ps g → f ≡ g
