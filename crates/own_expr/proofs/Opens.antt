@@ -1,5 +1,5 @@
 -- What each goal reads, one step down, and what the loops keep.
-use Rattle.std.proofs.Common.{◌≡◌, ℕ, zero, suc, ◌+◌, ◌-◌, ◌<◌, ◌≤◌, max, Bool, true, false, List, [], ◌∷◌, ◌++◌, map, length, Option, Some, None, Result, Ok, Err, refl, sym, ap, ◌∙◌, arith}
+use Rattle.std.proofs.Common.{◌≡◌, ℕ, zero, suc, ◌+◌, ◌-◌, ◌<◌, ◌≤◌, max, Bool, true, false, List, [], ◌∷◌, ◌++◌, map, length, Some, None, Ok, refl, sym, ap, ◌∙◌, arith}
 use Rattle.std.proofs.lemmas.List.{map-append}
 use Rattle.own_tree.specs.declared.limits.TheConstants.{MOST_NESTING}
 use Rattle.own_tree.specs.declared.token.Mark.{Mark}
@@ -9,13 +9,13 @@ use Rattle.own_tree.specs.declared.token.Word.TheVariants as word
 use Rattle.own_tree.specs.declared.tree.Argument.{Argument}
 use Rattle.own_tree.specs.declared.tree.Stmt.{Stmt}
 use Rattle.own_tree.specs.declared.tree.Clause.{Clause}
-use Rattle.own_tree.specs.Source.{Exp, Pat, pat, no_pats, Stm, case_of, case_where}
+use Rattle.own_tree.specs.Source.{Exp, Pat, Stm, case_of, case_where}
 use Rattle.own_tree.specs.View.{Arg, Cla, args_of, stms_of, clauses_of, pats_of, argument_view, stmt_view, clause_view}
 use Rattle.own_grammar.specs.declared.Context.{Context}
 use Rattle.own_grammar.specs.declared.Context.TheVariants.{Plain}
 use Rattle.own_grammar.specs.Tests.{Toks, after, kind_at, root_at, is_mark, is_word}
-use Rattle.own_grammar.specs.Nesting.{nest, nest_given, nest_args, nest_stm, nest_stms, nest_when, nest_clauses}
-use Rattle.own_grammar.specs.Reading.{Fault, Syntax, Depth, ◌>>=◌, Goal, expression, operand, operators_on, calls_on, arguments_on, statement, statements_on, clause_on, clauses_on, body, Reader, parenthesized_with, primary_with, pre_with, level_with, operators_with, expression_with, argument_with, arguments_with, calls_with, statement_with, separated_with, statements_with, ends_clause, clause_statements_with, where_with, clause_with, clauses_with, block_with, literal_at, step, read}
+use Rattle.own_grammar.specs.Nesting.{nest_given, nest_args, nest_stm, nest_stms, nest_when, nest_clauses}
+use Rattle.own_grammar.specs.Reading.{◌>>=◌, expression, operand, operators_on, calls_on, arguments_on, statement, statements_on, clause_on, clauses_on, body, Reader, parenthesized_with, primary_with, pre_with, level_with, operators_with, expression_with, argument_with, arguments_with, calls_with, statement_with, separated_with, statements_with, ends_clause, clause_statements_with, where_with, clause_with, clauses_with, block_with, literal_at, step, read}
 use Rattle.own_grammar.proofs.Facts.{mark_kind, no_negative, at_mark}
 use Rattle.own_grammar.proofs.Same.{read_is}
 use Rattle.own_expr.specs.declared.fault.ReadError.{ReadError}

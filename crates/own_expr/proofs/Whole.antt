@@ -1,5 +1,5 @@
 -- What a reading of a block says of the trees that stand there.
-use Rattle.std.proofs.Common.{◌≡◌, ℕ, ◌+◌, ◌-◌, ◌≤◌, ◌<◌, length, drop, length-drop, Result, Ok, Err, refl, sym, ap, ◌∙◌, arith}
+use Rattle.std.proofs.Common.{◌≡◌, ℕ, ◌+◌, ◌-◌, ◌≤◌, ◌<◌, length, drop, length-drop, Ok, Err, ap, arith}
 use Rattle.own_tree.specs.declared.limits.TheConstants.{MOST_NESTING}
 use Rattle.own_tree.specs.Source.{Blk}
 use Rattle.own_grammar.specs.Tests.{Toks}
@@ -9,7 +9,7 @@ use Rattle.own_grammar.specs.Partial.{PBlk, PartB, nest_pb}
 use Rattle.own_grammar.specs.Reading.{Fault, Syntax, Depth, Read, body, read}
 use Rattle.own_grammar.proofs.Laws.{block_again, block_found, block_syntax, one_block}
 use Rattle.own_grammar.proofs.Deep.{block_depth}
-use Rattle.own_expr.proofs.Tails.{Tail, tail_b, part_b, at_place, tail_le}
+use Rattle.own_expr.proofs.Tails.{tail_b, part_b, at_place, tail_le}
 
 module _ (tokens : Toks) (from d : ℕ) where
   -- what was read, and where it ends

@@ -1,4 +1,4 @@
-use Rattle.std.proofs.Common.{◌≡◌, arith}
+use Rattle.std.proofs.Common.{arith}
 use Rattle.own_tree.specs.View.{block_view}
 use Rattle.own_grammar.specs.Reading.{Syntax, Depth}
 use Rattle.own_expr.proofs.Whole.{stands, again, not_refused, no_block, too_deep}

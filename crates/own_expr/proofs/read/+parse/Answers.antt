@@ -1,10 +1,10 @@
-use Rattle.std.proofs.Common.{◌≡◌, ◌<◌, ◌+◌, [], ◌∷◌, map, length, max, refl, sym, ◌∙◌, ap, arith}
+use Rattle.std.proofs.Common.{◌<◌, map, refl, sym, ◌∙◌, arith}
 use Rattle.std.proofs.lemmas.List.{length-map}
 use Rattle.std.proofs.lemmas.Result.{err_from_is_err_and}
 use Rattle.own_tree.specs.declared.limits.TheConstants.{MOST_NESTING}
 use Rattle.own_tree.specs.View.{expr_view, pattern_view}
 use Rattle.own_grammar.specs.Reading.{read}
-use Rattle.own_expr.proofs.Opens.{expression_is, operand_is, operators_is, calls_is, statement_is, body_is, parenthesized_is, level_zero, level_up, level_fail, where_none, where_one, where_many, where_fail, arguments_begin, arguments_high, arguments_go, arguments_end, arguments_fail, statements_begin, statements_go, statements_end, statements_fail, statements_high, clause_begin, clause_go, clause_end, clause_fail, clauses_begin, clauses_go, clauses_end, clauses_fail}
+use Rattle.own_expr.proofs.Opens.{expression_is, operand_is, operators_is, calls_is, statement_is, body_is, parenthesized_is, level_zero, level_up, level_fail, where_none, where_one, where_many, where_fail, arguments_high, arguments_go, arguments_end, arguments_fail, statements_go, statements_end, statements_fail, statements_high, clause_go, clause_end, clause_fail, clauses_go, clauses_end, clauses_fail}
 use Rattle.own_expr.proofs.read.+parse.Goals as goal
 
 pub expressions::primary_of-returns-then-is_mark-clause-gives : goal.expressions::primary_of-returns-then-is_mark-clause-gives
