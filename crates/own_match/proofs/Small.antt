@@ -1,5 +1,5 @@
 -- A form of a declared type has no more places than the type has slots.
-use Rattle.std.proofs.Common.{◌≡◌, ℕ, zero, suc, ◌+◌, ◌<◌, ◌≤◌, max, ◌⊎◌, Bool, true, false, ◌||◌, List, [], ◌∷◌, map, IsTrue, Contains, inl, inr, refl, sym, ap, ◌∙◌, subst, arith, ltb-true}
+use Rattle.std.proofs.Common.{◌≡◌, ℕ, suc, ◌+◌, ◌<◌, ◌≤◌, ◌⊎◌, Bool, true, false, ◌||◌, List, [], ◌∷◌, IsTrue, Contains, inl, inr, refl, sym, ◌∙◌, subst, arith, ltb-true}
 use Rattle.std.specs.List.{AllByRecursion}
 use Rattle.own_tree.specs.declared.place.Ty.{Ty}
 use Rattle.own_tree.specs.declared.place.Ty.TheVariants as type
