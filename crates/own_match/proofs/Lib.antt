@@ -12,3 +12,4 @@ pub mod Enums
 pub mod Taking
 pub mod Final
 pub mod Ordered
+pub mod Small

@@ -1,6 +1,6 @@
 //! Laws of the definitions. Each function does nothing; its contract is the law.
 
-ghost use Rattle.own_match.specs.Laws.{FirstMissingIsOne, FormsAreApart, FormsAreOrdered, ValuesHaveForms};
+ghost use Rattle.own_match.specs.Laws.{FirstMissingIsOne, FormsAreApart, FormsAreOrdered, FormsAreSmall, ValuesHaveForms};
 
 /// Each value of a type has a form that stands for it.
 pub fn values_have_forms()
@@ -20,4 +20,9 @@ pub fn forms_are_apart()
 /// A list of patterns has one first form that is missing.
 pub fn first_missing_is_one()
     ensures { FirstMissingIsOne }
+{}
+
+/// A form of a declared type has at most as many places as a type may have slots (M8).
+pub fn forms_are_small()
+    ensures { FormsAreSmall }
 {}

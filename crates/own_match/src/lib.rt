@@ -10,7 +10,9 @@ pub mod laws;
 mod search;
 
 pub use covering::cover;
-pub use laws::{first_missing_is_one, forms_are_apart, forms_are_ordered, values_have_forms};
+pub use laws::{
+    first_missing_is_one, forms_are_apart, forms_are_ordered, forms_are_small, values_have_forms,
+};
 
 #[cfg(test)]
 mod tests;
