@@ -19,3 +19,6 @@ pub mod Accepted
 pub mod Single
 pub mod Proved
 pub mod Exceeded
+pub mod Repeats
+pub mod Known
+pub mod Walked

@@ -10,6 +10,10 @@ pub mod Fixed
 pub mod Makers
 pub mod Findings
 pub mod Facts
+pub mod Parts
 pub mod Limits
+pub mod Judgements
+pub mod Names
+pub mod Walks
 pub mod BodyLimits
 pub mod Laws

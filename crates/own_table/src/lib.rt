@@ -5,6 +5,7 @@
 pub mod error;
 pub mod info;
 pub mod laws;
+pub mod survey;
 pub mod table;
 
 pub use error::TableError;
