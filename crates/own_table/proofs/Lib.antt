@@ -22,3 +22,4 @@ pub mod Exceeded
 pub mod Repeats
 pub mod Known
 pub mod Walked
+pub mod Surveyed

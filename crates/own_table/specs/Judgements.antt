@@ -73,9 +73,10 @@ content_fault false written.Unknown at = None
 content_fault false written.Copyable at = None
 content_fault false written.Noncopyable at = fault judgement.CopyableParts at
 
-abbrev pub lifetime_fault : Bool → Span → Option Fault
-lifetime_fault true at = None
-lifetime_fault false at = fault judgement.Lifetime at
+-- at a place where a judgement does not hold
+abbrev pub fault_unless : Bool → Judgement → Span → Option Fault
+fault_unless true j at = None
+fault_unless false j at = fault j at
 
 -- SE-0390: a noncopyable parameter says how it is passed. A name that names no type is neither.
 abbrev pub parameter_fault : Option PassingMode → Written → Span → Option Fault
@@ -104,14 +105,6 @@ RESERVED = codes "Int" ∷ codes "Bool" ∷ codes "Void" ∷ codes "Copyable" �
 abbrev pub is_reserved : List ℕ → Bool
 is_reserved name = list_any (λ r. bytes_eq name r) RESERVED
 
-abbrev pub top_fault : Bool → Span → Option Fault
-top_fault false at = None
-top_fault true at = fault judgement.TopNames at
-
-abbrev pub main_fault : Bool → Span → Option Fault
-main_fault true at = None
-main_fault false at = fault judgement.TopNames at
-
 abbrev pub fault_of : (List ℕ → Written) → Part → Option Fault
 fault_of w (a_body at n) = None
 fault_of w (a_case at n) = None
@@ -119,11 +112,11 @@ fault_of w (a_print at n) = None
 fault_of w (a_type n) = type_fault (w n.text) n.span
 fault_of w (a_scope ns) = at_fault judgement.DifferentNames (repeated ns)
 fault_of w (a_content noncopyable n) = content_fault noncopyable (w n.text) n.span
-fault_of w (a_lifetime allowed at) = lifetime_fault allowed at
+fault_of w (a_lifetime allowed at) = fault_unless allowed judgement.Lifetime at
 fault_of w (a_parameter s mode n) = parameter_fault mode (w n.text) s
 fault_of w (a_method noncopyable s mode) = method_fault noncopyable s mode
-fault_of w (a_top n) = top_fault (is_reserved n.text) n.span
-fault_of w (a_main plain at) = main_fault plain at
+fault_of w (a_top n) = fault_unless (not (is_reserved n.text)) judgement.TopNames n.span
+fault_of w (a_main plain at) = fault_unless plain judgement.TopNames at
 fault_of w (no_main at) = fault judgement.TopNames at
 
 -- ---- what a walk notes
@@ -152,11 +145,11 @@ note w s (a_print at n) = with_taken s n at
 note w s (a_type n) = with_fault s (type_fault (w n.text) n.span)
 note w s (a_scope ns) = with_fault s (at_fault judgement.DifferentNames (repeated ns))
 note w s (a_content noncopyable n) = with_fault s (content_fault noncopyable (w n.text) n.span)
-note w s (a_lifetime allowed at) = with_fault s (lifetime_fault allowed at)
+note w s (a_lifetime allowed at) = with_fault s (fault_unless allowed judgement.Lifetime at)
 note w s (a_parameter s' mode n) = with_fault s (parameter_fault mode (w n.text) s')
 note w s (a_method noncopyable s' mode) = with_fault s (method_fault noncopyable s' mode)
-note w s (a_top n) = with_fault s (top_fault (is_reserved n.text) n.span)
-note w s (a_main plain at) = with_fault s (main_fault plain at)
+note w s (a_top n) = with_fault s (fault_unless (not (is_reserved n.text)) judgement.TopNames n.span)
+note w s (a_main plain at) = with_fault s (fault_unless plain judgement.TopNames at)
 note w s (no_main at) = with_fault s (fault judgement.TopNames at)
 
 abbrev pub notes : (List ℕ → Written) → Survey → List Part → Survey

@@ -15,5 +15,6 @@ pub mod Limits
 pub mod Judgements
 pub mod Names
 pub mod Walks
+pub mod TextWalks
 pub mod BodyLimits
 pub mod Laws

@@ -15,6 +15,7 @@ use Rattle.own_tree.specs.declared.tree.ResultType.TheVariants as result
 use Rattle.own_tree.specs.declared.tree.Root.{Root}
 use Rattle.own_tree.specs.declared.tree.Root.TheVariants as root
 use Rattle.own_tree.specs.Source.{LetPat, let_any, let_bind, let_case, let_number, let_truth, LetPats, no_let_pats, let_pat, Pat, any, bind, bind_case, on_case, on_number, on_truth, Pats, no_pats, pat, Exp, number, text, truth, path, implicit_member, parenthesized, consumed, prefix, binary, choice, member, call, call_closing, call_closure, Given, value, address, closing, Args, no_args, arg, Clo, closure, Stm, let_in, declare, assign, ignore, discard_self, if_then, if_else, else_if, loop_while, loop_repeat, loop_for, switch, leave, go_on, return_none, return_value, evaluate, Stms, no_stms, stm, When, case_of, case_where, default, Clauses, no_clauses, clause, Blk, block, Fun, Member, field, initializer, deinitializer, method, cases, Decl, struct_of, enum_of, function, File}
+use Rattle.own_table.specs.declared.survey.declarations.Home.{Home}
 use Rattle.own_table.specs.Ops.{opening}
 
 pub data Part : Type 0 where
@@ -247,12 +248,6 @@ payload_parts noncopyable (n ∷ ns) = a_type n ∷ a_content noncopyable n ∷ 
 abbrev pub case_parts : Bool → List CaseItem → List Part
 case_parts noncopyable [] = []
 case_parts noncopyable (c ∷ cs) = a_case c.name.span (length c.payloads) ∷ payload_parts noncopyable c.payloads ++ case_parts noncopyable cs
-
--- what a type says of its members: whether it is noncopyable, whether a `deinit` may stand in it, and an `init`
-pub record Home : Type 0 where
-  pub noncopyable : Bool
-  pub takes_deinit : Bool
-  pub takes_init : Bool
 
 abbrev pub member_parts : Home → List Member → List Part
 member_parts h [] = []
