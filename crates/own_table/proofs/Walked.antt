@@ -5,12 +5,16 @@ use Rattle.std.proofs.lemmas.List.{map-append}
 use Rattle.std.proofs.lemmas.List.{length-map}
 use Rattle.own_tree.specs.declared.tree.Argument.{Argument}
 use Rattle.own_tree.specs.declared.tree.Name.{Name}
+use Rattle.own_tree.specs.declared.tree.CaseItem.{CaseItem}
+use Rattle.own_tree.specs.declared.tree.Declaration.{Declaration}
+use Rattle.own_tree.specs.declared.tree.EnumMember.{EnumMember}
+use Rattle.own_tree.specs.declared.tree.StructMember.{StructMember}
 use Rattle.own_tree.specs.declared.tree.LetPattern.{LetPattern}
 use Rattle.own_tree.specs.declared.tree.Pattern.{Pattern}
 use Rattle.own_tree.specs.declared.tree.Stmt.{Stmt}
-use Rattle.own_tree.specs.Source.{Stm, LetPat, Pat}
-use Rattle.own_tree.specs.View.{Arg, args_of, stms_of, let_pats_of, pats_of, argument_view, stmt_view, let_pattern_view, pattern_view}
-use Rattle.own_table.specs.Parts.{arg_count, local_name, local_names, one_name, closure_names, let_names, all_let_names, pat_names, all_pat_names}
+use Rattle.own_tree.specs.Source.{Stm, LetPat, Pat, Member}
+use Rattle.own_tree.specs.View.{Arg, args_of, stms_of, let_pats_of, pats_of, argument_view, stmt_view, let_pattern_view, pattern_view, struct_member_view, enum_member_view, declaration_view}
+use Rattle.own_table.specs.Parts.{arg_count, local_name, local_names, one_name, closure_names, let_names, all_let_names, pat_names, all_pat_names, item_names, names_of_member, member_names, declared_name}
 
 -- what is left after some elements
 pub left : {A B : Type 0} (view : A → B) (xs : List A) (i : ℕ) (x : A) → i < length xs → x ≡ get_or xs i x → map view (drop i xs) ≡ view x ∷ map view (drop (suc i) xs)
@@ -67,3 +71,22 @@ pushed now before old all one more e f g = f ∙ ap (λ ns. ns ++ one) e ∙ app
 
 pub arg_count_of : (xs : List Argument) → arg_count (args_of (map argument_view xs)) ≡ length xs
 arg_count_of xs = arg_count_is (map argument_view xs) ∙ length-map xs argument_view
+
+members-append : (xs ys : List Member) → member_names (xs ++ ys) ≡ member_names xs ++ member_names ys
+members-append [] ys = refl
+members-append (x ∷ xs) ys = rw (members-append xs ys) (sym (append_assoc (names_of_member x) (member_names xs) (member_names ys)))
+
+pub next_struct_member : (ms : List StructMember) (i : ℕ) (m : StructMember) → i < length ms → m ≡ get_or ms i m
+    → member_names (map struct_member_view (take (suc i) ms)) ≡ member_names (map struct_member_view (take i ms)) ++ names_of_member (struct_member_view m)
+next_struct_member = together member_names names_of_member members-append (λ m. append-nil (names_of_member m)) struct_member_view
+
+pub next_enum_member : (ms : List EnumMember) (i : ℕ) (m : EnumMember) → i < length ms → m ≡ get_or ms i m
+    → member_names (map enum_member_view (take (suc i) ms)) ≡ member_names (map enum_member_view (take i ms)) ++ names_of_member (enum_member_view m)
+next_enum_member = together member_names names_of_member members-append (λ m. append-nil (names_of_member m)) enum_member_view
+
+pub next_item : (cs : List CaseItem) (i : ℕ) (c : CaseItem) → i < length cs → c ≡ get_or cs i c → item_names (take (suc i) cs) ≡ item_names (take i cs) ++ c.name ∷ []
+next_item cs i c lt is = ap item_names (take-suc cs i c lt ∙ ap (λ y. take i cs ++ y ∷ []) (sym is)) ∙ map-append (λ x. x.name) (take i cs) (c ∷ [])
+
+pub next_name : (ds : List Declaration) (i : ℕ) (d : Declaration) → i < length ds → d ≡ get_or ds i d
+    → map declared_name (map declaration_view (take (suc i) ds)) ≡ map declared_name (map declaration_view (take i ds)) ++ declared_name (declaration_view d) ∷ []
+next_name = together (map declared_name) (λ d. declared_name d ∷ []) (map-append declared_name) (λ d. refl) declaration_view

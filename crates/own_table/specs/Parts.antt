@@ -262,14 +262,17 @@ member_parts h (cases s cs ∷ ms) = case_parts h.noncopyable cs ++ member_parts
 abbrev pub item_names : List CaseItem → List Name
 item_names cs = map (λ c. c.name) cs
 
--- stored properties, cases and methods
+-- a stored property, cases or a method
+abbrev pub names_of_member : Member → List Name
+names_of_member (field f) = f.name ∷ []
+names_of_member (initializer s ps b) = []
+names_of_member (deinitializer s b) = []
+names_of_member (method s mode f) = f.name ∷ []
+names_of_member (cases s cs) = item_names cs
+
 abbrev pub member_names : List Member → List Name
 member_names [] = []
-member_names (field f ∷ ms) = f.name ∷ member_names ms
-member_names (initializer s ps b ∷ ms) = member_names ms
-member_names (deinitializer s b ∷ ms) = member_names ms
-member_names (method s mode f ∷ ms) = f.name ∷ member_names ms
-member_names (cases s cs ∷ ms) = item_names cs ++ member_names ms
+member_names (m ∷ ms) = names_of_member m ++ member_names ms
 
 -- SE-0390: a `deinit` stands in a noncopyable struct
 abbrev pub struct_home : Bool → Home

@@ -27,6 +27,12 @@ home_after (deinitializer s b) h = record h { takes_deinit = false }
 home_after (method s mode f) h = h
 home_after (cases s cs) h = h
 
+abbrev pub top_walk : Name → Survey → Survey
+top_walk n v = with_fault v (fault_unless (not (is_reserved n.text)) judgement.TopNames n.span)
+
+abbrev pub main_walk : Fun → Survey → Survey
+main_walk f v = if bytes_eq f.name.text MAIN then with_fault v (fault_unless (is_empty f.parameters && gives_nothing f.result) judgement.TopNames f.name.span) else v
+
 module _ (w : List ℕ → Written) where
   abbrev pub type_walk : Name → Survey → Survey
   type_walk n v = with_fault v (type_fault (w n.text) n.span)
@@ -80,12 +86,6 @@ module _ (w : List ℕ → Written) where
   abbrev pub members_walk : Home → List Member → Survey → Survey
   members_walk h [] v = v
   members_walk h (m ∷ ms) v = members_walk (home_after m h) ms (member_walk h m v)
-
-  abbrev pub top_walk : Name → Survey → Survey
-  top_walk n v = with_fault v (fault_unless (not (is_reserved n.text)) judgement.TopNames n.span)
-
-  abbrev pub main_walk : Fun → Survey → Survey
-  main_walk f v = if bytes_eq f.name.text MAIN then with_fault v (fault_unless (is_empty f.parameters && gives_nothing f.result) judgement.TopNames f.name.span) else v
 
   abbrev pub declaration_walk : Decl → Survey → Survey
   declaration_walk (struct_of s name noncopyable ms) v = members_walk (struct_home noncopyable) ms (scope_walk (member_names ms) (top_walk name v))

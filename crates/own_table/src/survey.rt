@@ -8,6 +8,7 @@ pub(crate) mod declarations;
 pub(crate) mod expressions;
 pub(crate) mod notes;
 pub(crate) mod scopes;
+pub mod text;
 
 use own_tree::Span;
 use own_tree::limits::{MOST_BODIES, MOST_PARAMETERS};

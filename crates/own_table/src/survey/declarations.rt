@@ -41,7 +41,7 @@ fn first_word(bytes: u32, span: Span) -> Span
 }
 
 /// A false judgement at a place, where it is one.
-fn fault_unless(holds: bool, judgement: Judgement, at: Span) -> Option<Fault>
+pub(crate) fn fault_unless(holds: bool, judgement: Judgement, at: Span) -> Option<Fault>
     ensures { result ≡ unless holds judgement at }
 {
     if holds {
@@ -192,7 +192,7 @@ fn walk_taking(alloc: Global, names: &TypeNames, survey: &mut Survey, at: Span, 
 }
 
 /// A function: what it takes and gives, and its body.
-fn walk_function(alloc: Global, names: &TypeNames, survey: &mut Survey, function: &FunctionDeclaration) -> Result<(), AllocError>
+pub(crate) fn walk_function(alloc: Global, names: &TypeNames, survey: &mut Survey, function: &FunctionDeclaration) -> Result<(), AllocError>
     ensures { OnOk result (survey.new ≡ function_walk (written_in names.now) (function_view function.now) survey.old) }
 {
     walk_taking(alloc, names, survey, function.name.span, function.parameters.as_slice())?;
@@ -313,7 +313,7 @@ impl Home {
 }
 
 /// The members of a struct.
-fn walk_struct_members(alloc: Global, names: &TypeNames, survey: &mut Survey, noncopyable: bool, members: &[StructMember]) -> Result<(), AllocError>
+pub(crate) fn walk_struct_members(alloc: Global, names: &TypeNames, survey: &mut Survey, noncopyable: bool, members: &[StructMember]) -> Result<(), AllocError>
     ensures { OnOk result (survey.new ≡ members_walk (written_in names.now) (struct_home noncopyable) (map struct_member_view members.now) survey.old) }
 {
     let mut home = Home {
@@ -329,7 +329,7 @@ fn walk_struct_members(alloc: Global, names: &TypeNames, survey: &mut Survey, no
 }
 
 /// The members of an enum.
-fn walk_enum_members(alloc: Global, names: &TypeNames, survey: &mut Survey, noncopyable: bool, members: &[EnumMember]) -> Result<(), AllocError>
+pub(crate) fn walk_enum_members(alloc: Global, names: &TypeNames, survey: &mut Survey, noncopyable: bool, members: &[EnumMember]) -> Result<(), AllocError>
     ensures { OnOk result (survey.new ≡ members_walk (written_in names.now) (enum_home noncopyable) (map enum_member_view members.now) survey.old) }
 {
     let mut home = Home {
