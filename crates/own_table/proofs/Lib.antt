@@ -4,6 +4,15 @@ pub mod Descent
 pub mod Leaves
 pub mod Unfolding
 pub mod Whole
+pub mod ByIndex
+pub mod Settled
+pub mod Advance
+pub mod Extended
+pub mod Measured
+pub mod FewLeaves
+pub mod Fitted
+pub mod Numbered
+pub mod Resolved
 pub mod Causes
 pub mod Sound
 pub mod TraceFacts

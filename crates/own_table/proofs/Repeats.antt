@@ -50,6 +50,7 @@ module _ (names : List (Bor Name)) (i : ℕ) (n : Bor Name) (lt : i < length nam
       → (map (λ k. k.now) (keys ++ v ∷ []) ≡ map (λ m. m.now.text) (take (suc i) names))
       × (repeated (names_of names) ≡ repeated_after (names_of (take (suc i) names)) (names_of (drop (suc i) names)))
   onward added v named answer new =
-      let unseen = sym found ∙ (not_not _ added answer).1 new in
-      (map-append (λ (k : Bor (List ℕ)). k.now) keys (v ∷ []) ∙ rw (same, named, one_more) (sym (map-append (λ (m : Bor Name). m.now.text) (take i names) (n ∷ []))),
-      whole ∙ rw (rest, unseen, one_more, map-append (λ (m : Bor Name). m.now) (take i names) (n ∷ [])) refl)
+      let unseen = sym found ∙ (not_not _ added answer).1 new in (
+        map-append (λ (k : Bor (List ℕ)). k.now) keys (v ∷ []) ∙ rw (same, named, one_more) (sym (map-append (λ (m : Bor Name). m.now.text) (take i names) (n ∷ []))),
+        whole ∙ rw (rest, unseen, one_more, map-append (λ (m : Bor Name). m.now) (take i names) (n ∷ [])) refl,
+      )

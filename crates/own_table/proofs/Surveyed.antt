@@ -166,9 +166,11 @@ module _ (w : List ℕ → Written) where
   members_noted h (cases s cs ∷ ms) = seq (cases_noted h.noncopyable cs) (members_noted h ms)
 
   main_noted : (f : Fun) → Noted (main_walk f) (main_parts f)
-  main_noted f = record { is = λ v.
-      (let P : Bool → Type 0 = λ b. bytes_eq f.name.text MAIN ≡ b → main_walk f v ≡ notes w v (main_parts f) in
-      elim (bytes_eq f.name.text MAIN) as P [ true ↦ λ e. rw e refl | false ↦ λ e. rw e refl ] refl) }
+  main_noted f = record {
+    is = λ v.
+        (let P : Bool → Type 0 = λ b. bytes_eq f.name.text MAIN ≡ b → main_walk f v ≡ notes w v (main_parts f) in
+        elim (bytes_eq f.name.text MAIN) as P [ true ↦ λ e. rw e refl | false ↦ λ e. rw e refl ] refl);
+  }
 
   declarations_noted : (ds : List Decl) → Noted (declarations_walk w ds) (declared_parts ds)
   declarations_noted [] = nil

@@ -13,7 +13,7 @@ use Rattle.own_table.specs.Types.{TypeHead, struct, enum, shapes_of, payloads_of
 use Rattle.own_table.proofs.Members.{In, in_contains, in_front, in_back}
 use Rattle.own_table.proofs.Unfolding.{shapes_unfold}
 
-all_in : {A : Type 0} (p : A → Bool) (xs : List A) → IsTrue (list_all p xs) → (x : A) → In xs x → IsTrue (p x)
+pub all_in : {A : Type 0} (p : A → Bool) (xs : List A) → IsTrue (list_all p xs) → (x : A) → In xs x → IsTrue (p x)
 all_in p [] all x i = absurd i
 all_in p (y ∷ ys) all x i = elim i [ inl e ↦ subst (λ z. IsTrue (p z)) e (both_left (p y) (list_all p ys) all) | inr h ↦ all_in p ys (both_right (p y) (list_all p ys) all) x h ]
   where

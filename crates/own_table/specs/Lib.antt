@@ -1,6 +1,14 @@
 pub mod Types
 pub mod Measures
 pub mod Table
+pub mod Order
+pub mod Extents
+pub mod ByParts
+pub mod Fitting
+pub mod Numbers
+pub mod Resolving
+pub mod Unfit
+pub mod Settling
 pub mod Within
 pub mod Captures
 pub mod Ops

@@ -1,11 +1,13 @@
 -- What a table of types says.
-use Rattle.std.specs.Prelude.{◌≡◌, ℕ, ◌<◌, ◌≤◌, true, false, IsTrue, Contains, length}
+use Rattle.std.specs.Prelude.{◌≡◌, ℕ, ◌<◌, ◌≤◌, true, false, IsTrue, Contains, List, length, None}
 use Rattle.own_tree.specs.declared.limits.TheConstants.{MOST_TYPES, MOST_TYPE_SLOTS}
 use Rattle.own_tree.specs.declared.place.Ty.{Ty}
 use Rattle.own_tree.specs.declared.place.Ty.TheVariants as type
 use Rattle.own_table.specs.declared.info.CaseInfo.{CaseInfo}
 use Rattle.own_table.specs.declared.info.FieldInfo.{FieldInfo}
+use Rattle.own_table.specs.declared.info.TypeInfo.{TypeInfo}
 use Rattle.own_table.specs.declared.table.TypeTable.{TypeTable}
+use Rattle.own_table.specs.Extents.{first_over_M8}
 use Rattle.own_table.specs.Types.{Types, Shape, TypeHead, struct, enum, shapes_of, payloads_of, field_types, case_types, leaves, slots, is_part, IsType, types_resolved}
 
 abbrev pub types_in : TypeTable → Types
@@ -17,6 +19,11 @@ shape_in_table table ty = (types_in table).shape ty
 -- a type of the table
 abbrev pub IsTypeIn : TypeTable → Ty → Type 0
 IsTypeIn table ty = IsType (types_in table).count ty
+
+-- the table of these types, which are all within M8
+pub record IsTableOf (ts : List TypeInfo) (table : TypeTable) : Type 0 where
+  pub types : types_in table ≡ types_resolved ts
+  pub within : first_over_M8 ts ≡ None
 
 -- ---- what is so in each table
 

@@ -257,21 +257,25 @@ payloads_of shape_of (tys ∷ cs) = payloads (shapes_of shape_of tys) (payloads_
 
 -- ---- the declarations, with each name resolved
 
-abbrev pub resolved_field : List Declared → Field → FieldInfo
-resolved_field ds f = record { name = f.name.text; ty = written_type ds f.written.text; changes = is_var f.keyword }
+-- by what a written name stands for
+abbrev pub resolved_field : (List ℕ → Ty) → Field → FieldInfo
+resolved_field type_of f = record { name = f.name.text; ty = type_of f.written.text; changes = is_var f.keyword }
 
-abbrev pub resolved_case : List Declared → CaseItem → CaseInfo
-resolved_case ds c = record { name = c.name.text; payloads = map (λ name. written_type ds name.text) c.payloads }
+abbrev pub resolved_case : (List ℕ → Ty) → CaseItem → CaseInfo
+resolved_case type_of c = record { name = c.name.text; payloads = map (λ name. type_of name.text) c.payloads }
 
-abbrev pub resolved : List Declared → Declared → TypeInfo
-resolved ds d = record {
+abbrev pub resolved_by : (List ℕ → Ty) → Declared → TypeInfo
+resolved_by type_of d = record {
   name = d.name.text;
   is_enum = d.is_enum;
   noncopyable = d.noncopyable;
   has_deinit = d.has_deinit;
-  fields = map (resolved_field ds) d.fields;
-  cases = map (resolved_case ds) d.cases;
+  fields = map (resolved_field type_of) d.fields;
+  cases = map (resolved_case type_of) d.cases;
 }
+
+abbrev pub resolved : List Declared → Declared → TypeInfo
+resolved ds d = resolved_by (written_type ds) d
 
 abbrev pub resolved_types : List Declared → List TypeInfo
 resolved_types ds = map (resolved ds) ds

@@ -1,6 +1,7 @@
 ghost use Rattle.std.specs.Prelude.{◌≡◌};
 ghost use Rattle.own_table.specs.declared.error.TableError.TheVariants as table_error;
 
+use crate::extent::Over;
 use own_tree::{LimitKind, Span};
 use std::alloc::{AllocError, AllocFailed};
 use thiserror::Error;
@@ -40,4 +41,17 @@ impl<T: Drop> From<AllocFailed<T>> for TableError {
     fn from(_error: AllocFailed<T>) -> TableError {
         TableError::Memory
     }
+}
+
+/// Why types whose names are resolved have no table.
+#[derive(Clone, Copy, Debug, PartialEq, Eq)]
+pub enum Unfit {
+    /// They are not within M4, M5 and M7, or a part of one is no type.
+    Parts,
+    /// T03, at the type with this number.
+    ContainsItself(u32),
+    /// M8.
+    Over(Over),
+    /// Memory was refused.
+    Memory,
 }

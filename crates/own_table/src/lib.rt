@@ -3,13 +3,23 @@
 #![tactic(auto)]
 
 pub mod error;
+pub mod extent;
+mod fitting;
 pub mod info;
 pub mod laws;
+mod mark;
+mod measure;
+mod names;
+mod order;
+mod resolve;
 pub mod survey;
 pub mod table;
+#[cfg(test)]
+mod tests;
 
-pub use error::TableError;
-pub use info::{CaseInfo, FieldInfo};
+pub use error::{TableError, Unfit};
+pub use extent::Over;
+pub use info::{CaseInfo, FieldInfo, TypeInfo};
 pub use laws::{
     findings_are_one_list, findings_are_ordered, findings_have_one_cause,
     fixed_findings_are_one_list, leaves_are_apart, leaves_have_one_fact, limits_are_exceeded,

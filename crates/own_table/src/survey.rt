@@ -3,9 +3,9 @@
 ghost use Rattle.std.specs.Prelude.{◌≡◌};
 ghost use Rattle.own_table.specs.Judgements.{nothing, with_body, with_taken, with_fault, earlier, code_of};
 
-pub(crate) mod names;
 pub(crate) mod declarations;
 pub(crate) mod expressions;
+pub(crate) mod names;
 pub(crate) mod notes;
 pub(crate) mod scopes;
 pub mod text;

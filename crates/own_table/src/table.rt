@@ -5,8 +5,15 @@ ghost use Rattle.own_tree.specs.declared.limits.TheConstants.{MOST_TYPES};
 ghost use Rattle.own_table.specs.Measures.{AreMeasures, AreWithin};
 ghost use Rattle.own_table.specs.Types.{NoneContainsItself, PartsAreTypes};
 
+use crate::error::Unfit;
+use crate::extent::{first_over, known_slots};
+use crate::fitting::are_fit;
 use crate::info::{CaseInfo, FieldInfo, Measure, TypeInfo};
+use crate::mark::Unordered;
+use crate::measure::{Unmeasured, measures};
+use crate::order::containment_order;
 use own_tree::{Row, Ty};
+use std::alloc::Global;
 
 /// The declared types of a text, in order. `Named(k)` is a type of the table exactly where `k` is below
 /// `count`; `Int`, `Bool`, `Unit` and function types are types of each table.
@@ -29,7 +36,58 @@ pub struct TypeTable {
 impl TypeTable {
     ghost use Rattle.std.specs.Prelude.{◌<◌, slice_get, Some};
     ghost use Rattle.own_table.specs.Types.{copyable, tracked, holds_tracked, leaves, slots};
-    ghost use Rattle.own_table.specs.Table.{types_in, shape_in_table, IsTypeIn};
+    ghost use Rattle.std.specs.Prelude.{true, IfOk, IfErr, OnOk};
+    ghost use Rattle.own_table.specs.ByParts.{IsOver};
+    ghost use Rattle.own_table.specs.Extents.{HaveFewParts};
+    ghost use Rattle.own_table.specs.Fitting.{are_fit};
+    ghost use Rattle.own_table.specs.Order.{IsContainmentOrder};
+    ghost use Rattle.own_table.specs.Unfit.{IsUnfit};
+    ghost use Rattle.own_table.specs.Table.{types_in, shape_in_table, IsTypeIn, IsTableOf};
+
+    /// The table of types, whose names are resolved: of types within M4, M5 and M7 of which each part is
+    /// a type, none of which contains itself, and which are all within M8.
+    pub fn from_types(alloc: Global, types: Row<TypeInfo>) -> Result<TypeTable, Unfit>
+        ensures ok { IfOk result (IsTableOf types) }
+        ensures fit { OnOk result (are_fit types ≡ true) }
+        ensures apart { OnOk result (NoneContainsItself types) }
+        ensures err { IfErr result (IsUnfit types) }
+    {
+        if !are_fit(types.as_slice()) {
+            return Err(Unfit::Parts);
+        }
+        let order = match containment_order(alloc, types.as_slice()) {
+            Ok(order) => order,
+            Err(Unordered::ContainsItself(number)) => return Err(Unfit::ContainsItself(number)),
+            Err(Unordered::Memory) => return Err(Unfit::Memory),
+        };
+        match TypeTable::from_order(alloc, types, order.as_slice()) {
+            Ok(table) => Ok(table),
+            Err(Unmeasured::Over(over)) => Err(Unfit::Over(over)),
+            Err(Unmeasured::Memory) => Err(Unfit::Memory),
+        }
+    }
+
+    /// The table of types in an order in which each comes after what it contains, or the first one over
+    /// M8.
+    pub(crate) fn from_order(
+        alloc: Global,
+        types: Row<TypeInfo>,
+        order: &[u32],
+    ) -> Result<TypeTable, Unmeasured>
+        requires few_types { length types ≤ MOST_TYPES }
+        requires few_parts { HaveFewParts types }
+        requires closed { PartsAreTypes types }
+        requires order { IsContainmentOrder types order.now }
+        ensures ok { IfOk result (IsTableOf types) }
+        ensures err { IfErr result (IsOver types) }
+    {
+        let known = known_slots(alloc, types.as_slice(), order)?;
+        if let Some(over) = first_over(types.as_slice(), known.as_slice()) {
+            return Err(Unmeasured::Over(over));
+        }
+        let measures = measures(alloc, types.as_slice(), order, known.as_slice())?;
+        Ok(TypeTable { types, measures })
+    }
 
     /// The number of declared types.
     pub fn count(&self) -> u32

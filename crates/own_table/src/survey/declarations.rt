@@ -14,8 +14,8 @@ use crate::survey::notes::{note_scope, unknown_type};
 use crate::survey::{Fault, Judgement, Survey, Written};
 use own_tree::Span;
 use own_tree::tree::{
-    CaseItem, Declaration, Deinitializer, EnumMember, FunctionDeclaration, FunctionParameter, Method,
-    MethodMode, Name, Parameter, ParameterType, PassingMode, ResultType, StructMember,
+    CaseItem, Declaration, Deinitializer, EnumMember, FunctionDeclaration, FunctionParameter,
+    Method, MethodMode, Name, Parameter, ParameterType, PassingMode, ResultType, StructMember,
 };
 use std::alloc::{AllocError, Global};
 
@@ -107,7 +107,13 @@ fn note_type(names: &TypeNames, survey: &mut Survey, name: &Name)
 }
 
 /// The type of a parameter, with its modifier.
-fn note_parameter(names: &TypeNames, survey: &mut Survey, span: Span, mode: Option<PassingMode>, name: &Name)
+fn note_parameter(
+    names: &TypeNames,
+    survey: &mut Survey,
+    span: Span,
+    mode: Option<PassingMode>,
+    name: &Name,
+)
     ensures { survey.new ≡ parameter_walk (written_in names.now) span mode name.now survey.old }
 {
     note_type(names, survey, name);
@@ -119,7 +125,13 @@ fn walk_inner(names: &TypeNames, survey: &mut Survey, parameters: &[FunctionPara
     ensures { survey.new ≡ inner_walk (written_in names.now) parameters.now survey.old }
 {
     for parameter in parameters {
-        note_parameter(names, survey, parameter.span, parameter.mode, &parameter.name);
+        note_parameter(
+            names,
+            survey,
+            parameter.span,
+            parameter.mode,
+            &parameter.name,
+        );
     }
 }
 
@@ -148,7 +160,9 @@ fn walk_parameter_type(names: &TypeNames, survey: &mut Survey, written: &Paramet
     ensures { survey.new ≡ parameter_type_walk (written_in names.now) written.now survey.old }
 {
     match written {
-        ParameterType::Named { span, mode, name } => note_parameter(names, survey, *span, *mode, name),
+        ParameterType::Named { span, mode, name } => note_parameter(
+            names, survey, *span, *mode, name,
+        ),
         ParameterType::Function {
             parameters,
             result: given,
@@ -170,7 +184,11 @@ fn walk_parameters(names: &TypeNames, survey: &mut Survey, parameters: &[Paramet
 }
 
 /// The names of parameters are a scope.
-fn note_parameter_names(alloc: Global, survey: &mut Survey, parameters: &[Parameter]) -> Result<(), AllocError>
+fn note_parameter_names(
+    alloc: Global,
+    survey: &mut Survey,
+    parameters: &[Parameter],
+) -> Result<(), AllocError>
     ensures { OnOk result (survey.new ≡ scope_walk (parameter_names parameters.now) survey.old) }
 {
     let mut found = Vec::new(alloc);
@@ -181,7 +199,13 @@ fn note_parameter_names(alloc: Global, survey: &mut Survey, parameters: &[Parame
 }
 
 /// A body at its place, with what it takes.
-fn walk_taking(alloc: Global, names: &TypeNames, survey: &mut Survey, at: Span, parameters: &[Parameter]) -> Result<(), AllocError>
+fn walk_taking(
+    alloc: Global,
+    names: &TypeNames,
+    survey: &mut Survey,
+    at: Span,
+    parameters: &[Parameter],
+) -> Result<(), AllocError>
     ensures { OnOk result (survey.new ≡ taking_walk (written_in names.now) at parameters.now survey.old) }
 {
     survey.note_body(at);
@@ -192,10 +216,21 @@ fn walk_taking(alloc: Global, names: &TypeNames, survey: &mut Survey, at: Span, 
 }
 
 /// A function: what it takes and gives, and its body.
-pub(crate) fn walk_function(alloc: Global, names: &TypeNames, survey: &mut Survey, function: &FunctionDeclaration) -> Result<(), AllocError>
+pub(crate) fn walk_function(
+    alloc: Global,
+    names: &TypeNames,
+    survey: &mut Survey,
+    function: &FunctionDeclaration,
+) -> Result<(), AllocError>
     ensures { OnOk result (survey.new ≡ function_walk (written_in names.now) (function_view function.now) survey.old) }
 {
-    walk_taking(alloc, names, survey, function.name.span, function.parameters.as_slice())?;
+    walk_taking(
+        alloc,
+        names,
+        survey,
+        function.name.span,
+        function.parameters.as_slice(),
+    )?;
     note_given_result(names, survey, &function.result);
     walk_block(alloc, names, survey, &function.block)
 }
@@ -228,7 +263,13 @@ fn walk_cases(names: &TypeNames, survey: &mut Survey, noncopyable: bool, cases: 
 }
 
 /// A member of a struct.
-fn walk_struct_member(alloc: Global, names: &TypeNames, survey: &mut Survey, home: Home, member: &StructMember) -> Result<(), AllocError>
+fn walk_struct_member(
+    alloc: Global,
+    names: &TypeNames,
+    survey: &mut Survey,
+    home: Home,
+    member: &StructMember,
+) -> Result<(), AllocError>
     ensures { OnOk result (survey.new ≡ member_walk (written_in names.now) home (struct_member_view member.now) survey.old) }
 {
     match member {
@@ -242,13 +283,25 @@ fn walk_struct_member(alloc: Global, names: &TypeNames, survey: &mut Survey, hom
             walk_taking(alloc, names, survey, at, initializer.parameters.as_slice())?;
             walk_block(alloc, names, survey, &initializer.block)
         }
-        StructMember::Deinitializer(deinitializer) => walk_deinitializer(alloc, names, survey, home, deinitializer),
+        StructMember::Deinitializer(deinitializer) => walk_deinitializer(
+            alloc,
+            names,
+            survey,
+            home,
+            deinitializer,
+        ),
         StructMember::Method(method) => walk_method(alloc, names, survey, home, method),
     }
 }
 
 /// A `deinit`, which takes nothing.
-fn walk_deinitializer(alloc: Global, names: &TypeNames, survey: &mut Survey, home: Home, deinitializer: &Deinitializer) -> Result<(), AllocError>
+fn walk_deinitializer(
+    alloc: Global,
+    names: &TypeNames,
+    survey: &mut Survey,
+    home: Home,
+    deinitializer: &Deinitializer,
+) -> Result<(), AllocError>
     ensures { OnOk result (survey.new ≡ member_walk (written_in names.now) home (deinitializer_view deinitializer.now) survey.old) }
 {
     let at = first_word(6, deinitializer.span);
@@ -259,7 +312,13 @@ fn walk_deinitializer(alloc: Global, names: &TypeNames, survey: &mut Survey, hom
 }
 
 /// A method.
-fn walk_method(alloc: Global, names: &TypeNames, survey: &mut Survey, home: Home, method: &Method) -> Result<(), AllocError>
+fn walk_method(
+    alloc: Global,
+    names: &TypeNames,
+    survey: &mut Survey,
+    home: Home,
+    method: &Method,
+) -> Result<(), AllocError>
     ensures { OnOk result (survey.new ≡ member_walk (written_in names.now) home (method_view method.now) survey.old) }
 {
     survey.note_fault(wrong_method(home.noncopyable, method.span, method.mode));
@@ -267,7 +326,13 @@ fn walk_method(alloc: Global, names: &TypeNames, survey: &mut Survey, home: Home
 }
 
 /// A member of an enum.
-fn walk_enum_member(alloc: Global, names: &TypeNames, survey: &mut Survey, home: Home, member: &EnumMember) -> Result<(), AllocError>
+fn walk_enum_member(
+    alloc: Global,
+    names: &TypeNames,
+    survey: &mut Survey,
+    home: Home,
+    member: &EnumMember,
+) -> Result<(), AllocError>
     ensures { OnOk result (survey.new ≡ member_walk (written_in names.now) home (enum_member_view member.now) survey.old) }
 {
     match member {
@@ -275,7 +340,13 @@ fn walk_enum_member(alloc: Global, names: &TypeNames, survey: &mut Survey, home:
             walk_cases(names, survey, home.noncopyable, cases.as_slice());
             Ok(())
         }
-        EnumMember::Deinitializer(deinitializer) => walk_deinitializer(alloc, names, survey, home, deinitializer),
+        EnumMember::Deinitializer(deinitializer) => walk_deinitializer(
+            alloc,
+            names,
+            survey,
+            home,
+            deinitializer,
+        ),
         EnumMember::Method(method) => walk_method(alloc, names, survey, home, method),
     }
 }
@@ -313,7 +384,13 @@ impl Home {
 }
 
 /// The members of a struct.
-pub(crate) fn walk_struct_members(alloc: Global, names: &TypeNames, survey: &mut Survey, noncopyable: bool, members: &[StructMember]) -> Result<(), AllocError>
+pub(crate) fn walk_struct_members(
+    alloc: Global,
+    names: &TypeNames,
+    survey: &mut Survey,
+    noncopyable: bool,
+    members: &[StructMember],
+) -> Result<(), AllocError>
     ensures { OnOk result (survey.new ≡ members_walk (written_in names.now) (struct_home noncopyable) (map struct_member_view members.now) survey.old) }
 {
     let mut home = Home {
@@ -329,7 +406,13 @@ pub(crate) fn walk_struct_members(alloc: Global, names: &TypeNames, survey: &mut
 }
 
 /// The members of an enum.
-pub(crate) fn walk_enum_members(alloc: Global, names: &TypeNames, survey: &mut Survey, noncopyable: bool, members: &[EnumMember]) -> Result<(), AllocError>
+pub(crate) fn walk_enum_members(
+    alloc: Global,
+    names: &TypeNames,
+    survey: &mut Survey,
+    noncopyable: bool,
+    members: &[EnumMember],
+) -> Result<(), AllocError>
     ensures { OnOk result (survey.new ≡ members_walk (written_in names.now) (enum_home noncopyable) (map enum_member_view members.now) survey.old) }
 {
     let mut home = Home {

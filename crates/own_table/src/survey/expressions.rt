@@ -6,15 +6,23 @@ ghost use Rattle.own_table.specs.Names.{written_in};
 ghost use Rattle.own_table.specs.Parts.{local_names};
 ghost use Rattle.own_table.specs.Walks.{exp_walk, given_walk, args_walk, closure_walk, stm_walk, stms_walk, when_walk, clauses_walk, block_walk, scope_walk, head_view};
 
-use crate::survey::names::TypeNames;
-use crate::survey::notes::{note_call, note_closing_call, note_closure, note_locals, note_pattern, note_patterns, note_print, note_written};
 use crate::survey::Survey;
+use crate::survey::names::TypeNames;
+use crate::survey::notes::{
+    note_call, note_closing_call, note_closure, note_locals, note_pattern, note_patterns,
+    note_print, note_written,
+};
 use own_tree::tree::{Argument, Block, Clause, Closure, Expr, Head, Passed, Stmt};
 use std::alloc::{AllocError, Global};
 
 /// Walks over an expression.
 #[cycle(walk)]
-pub(crate) fn walk_expr(alloc: Global, names: &TypeNames, survey: &mut Survey, expr: &Expr) -> Result<(), AllocError>
+pub(crate) fn walk_expr(
+    alloc: Global,
+    names: &TypeNames,
+    survey: &mut Survey,
+    expr: &Expr,
+) -> Result<(), AllocError>
     ensures { OnOk result (survey.new ≡ exp_walk (written_in names.now) (expr_view expr.now) survey.old) }
 {
     match expr {
@@ -46,13 +54,23 @@ pub(crate) fn walk_expr(alloc: Global, names: &TypeNames, survey: &mut Survey, e
             walk_expr(alloc, names, survey, callee.get())?;
             walk_closure(alloc, names, survey, closure)
         }
-        Expr::Number(..) | Expr::Text(..) | Expr::Truth(..) | Expr::Path(_) | Expr::ImplicitMember(..) | Expr::Consume(..) => Ok(()),
+        Expr::Number(..)
+        | Expr::Text(..)
+        | Expr::Truth(..)
+        | Expr::Path(_)
+        | Expr::ImplicitMember(..)
+        | Expr::Consume(..) => Ok(()),
     }
 }
 
 /// Walks over what an argument passes.
 #[cycle(walk)]
-fn walk_passed(alloc: Global, names: &TypeNames, survey: &mut Survey, passed: &Passed) -> Result<(), AllocError>
+fn walk_passed(
+    alloc: Global,
+    names: &TypeNames,
+    survey: &mut Survey,
+    passed: &Passed,
+) -> Result<(), AllocError>
     ensures { OnOk result (survey.new ≡ given_walk (written_in names.now) (passed_view passed.now) survey.old) }
 {
     match passed {
@@ -64,7 +82,12 @@ fn walk_passed(alloc: Global, names: &TypeNames, survey: &mut Survey, passed: &P
 
 /// Walks over the arguments of a call.
 #[cycle(walk)]
-fn walk_arguments(alloc: Global, names: &TypeNames, survey: &mut Survey, arguments: &[Argument]) -> Result<(), AllocError>
+fn walk_arguments(
+    alloc: Global,
+    names: &TypeNames,
+    survey: &mut Survey,
+    arguments: &[Argument],
+) -> Result<(), AllocError>
     ensures { OnOk result (survey.new ≡ args_walk (written_in names.now) (args_of (map argument_view arguments.now)) survey.old) }
 {
     for argument in arguments {
@@ -75,7 +98,12 @@ fn walk_arguments(alloc: Global, names: &TypeNames, survey: &mut Survey, argumen
 
 /// Walks over a closure: a body, its names and its statements.
 #[cycle(walk)]
-fn walk_closure(alloc: Global, names: &TypeNames, survey: &mut Survey, closure: &Closure) -> Result<(), AllocError>
+fn walk_closure(
+    alloc: Global,
+    names: &TypeNames,
+    survey: &mut Survey,
+    closure: &Closure,
+) -> Result<(), AllocError>
     ensures { OnOk result (survey.new ≡ closure_walk (written_in names.now) (closure_view closure.now) survey.old) }
 {
     note_closure(alloc, survey, closure)?;
@@ -84,7 +112,12 @@ fn walk_closure(alloc: Global, names: &TypeNames, survey: &mut Survey, closure: 
 
 /// Walks over statements that are a scope of their own.
 #[cycle(walk)]
-fn walk_scope(alloc: Global, names: &TypeNames, survey: &mut Survey, statements: &[Stmt]) -> Result<(), AllocError>
+fn walk_scope(
+    alloc: Global,
+    names: &TypeNames,
+    survey: &mut Survey,
+    statements: &[Stmt],
+) -> Result<(), AllocError>
     ensures { OnOk result (survey.new ≡ stms_walk (written_in names.now) (stms_of (map stmt_view statements.now)) (scope_walk (local_names (stms_of (map stmt_view statements.now))) survey.old)) }
 {
     note_locals(alloc, survey, statements)?;
@@ -93,7 +126,12 @@ fn walk_scope(alloc: Global, names: &TypeNames, survey: &mut Survey, statements:
 
 /// Walks over statements, one after the other.
 #[cycle(walk)]
-fn walk_statements(alloc: Global, names: &TypeNames, survey: &mut Survey, statements: &[Stmt]) -> Result<(), AllocError>
+fn walk_statements(
+    alloc: Global,
+    names: &TypeNames,
+    survey: &mut Survey,
+    statements: &[Stmt],
+) -> Result<(), AllocError>
     ensures { OnOk result (survey.new ≡ stms_walk (written_in names.now) (stms_of (map stmt_view statements.now)) survey.old) }
 {
     for statement in statements {
@@ -104,7 +142,12 @@ fn walk_statements(alloc: Global, names: &TypeNames, survey: &mut Survey, statem
 
 /// Walks over a block.
 #[cycle(walk)]
-pub(crate) fn walk_block(alloc: Global, names: &TypeNames, survey: &mut Survey, block: &Block) -> Result<(), AllocError>
+pub(crate) fn walk_block(
+    alloc: Global,
+    names: &TypeNames,
+    survey: &mut Survey,
+    block: &Block,
+) -> Result<(), AllocError>
     ensures { OnOk result (survey.new ≡ block_walk (written_in names.now) (block_view block.now) survey.old) }
 {
     walk_scope(alloc, names, survey, block.statements.as_slice())
@@ -112,7 +155,12 @@ pub(crate) fn walk_block(alloc: Global, names: &TypeNames, survey: &mut Survey, 
 
 /// Walks over a statement.
 #[cycle(walk)]
-fn walk_statement(alloc: Global, names: &TypeNames, survey: &mut Survey, statement: &Stmt) -> Result<(), AllocError>
+fn walk_statement(
+    alloc: Global,
+    names: &TypeNames,
+    survey: &mut Survey,
+    statement: &Stmt,
+) -> Result<(), AllocError>
     ensures { OnOk result (survey.new ≡ stm_walk (written_in names.now) (stmt_view statement.now) survey.old) }
 {
     match statement {
@@ -168,7 +216,12 @@ fn walk_statement(alloc: Global, names: &TypeNames, survey: &mut Survey, stateme
 
 /// Walks over the clauses of a `switch`.
 #[cycle(walk)]
-fn walk_clauses(alloc: Global, names: &TypeNames, survey: &mut Survey, clauses: &[Clause]) -> Result<(), AllocError>
+fn walk_clauses(
+    alloc: Global,
+    names: &TypeNames,
+    survey: &mut Survey,
+    clauses: &[Clause],
+) -> Result<(), AllocError>
     ensures { OnOk result (survey.new ≡ clauses_walk (written_in names.now) (clauses_of (map clause_view clauses.now)) survey.old) }
 {
     for clause in clauses {
@@ -180,7 +233,12 @@ fn walk_clauses(alloc: Global, names: &TypeNames, survey: &mut Survey, clauses: 
 
 /// Walks over the head of a clause.
 #[cycle(walk)]
-fn walk_head(alloc: Global, names: &TypeNames, survey: &mut Survey, head: &Head) -> Result<(), AllocError>
+fn walk_head(
+    alloc: Global,
+    names: &TypeNames,
+    survey: &mut Survey,
+    head: &Head,
+) -> Result<(), AllocError>
     ensures { OnOk result (survey.new ≡ when_walk (written_in names.now) (head_view head.now) survey.old) }
 {
     match head {

@@ -30,7 +30,10 @@ fn type_of(declaration: &Declaration) -> Option<(&Name, bool)>
 
 impl<'t> TypeNames<'t> {
     /// The types of a text.
-    pub(crate) fn new(alloc: Global, declarations: &'t [Declaration]) -> Result<TypeNames<'t>, AllocError>
+    pub(crate) fn new(
+        alloc: Global,
+        declarations: &'t [Declaration],
+    ) -> Result<TypeNames<'t>, AllocError>
         ensures { IfOk result (λ names. Knows names.types.entries (declared_types (map declaration_view declarations.now))) }
     {
         let mut types = IndexMap::new(alloc);

@@ -51,7 +51,12 @@ pub(crate) fn note_print(names: &TypeNames, survey: &mut Survey, callee: &Expr, 
 
 /// A call that is written with these arguments.
 #[tactic(auto, using(crate::proofs::Walked::arg_count_is))]
-pub(crate) fn note_call(names: &TypeNames, survey: &mut Survey, callee: &Expr, arguments: &[Argument])
+pub(crate) fn note_call(
+    names: &TypeNames,
+    survey: &mut Survey,
+    callee: &Expr,
+    arguments: &[Argument],
+)
     ensures { survey.new ≡ notes (written_in names.now) survey.old (print_call (expr_view callee.now) (arg_count (args_of (map argument_view arguments.now)))) }
 {
     note_print(names, survey, callee, arguments.len());
@@ -59,14 +64,23 @@ pub(crate) fn note_call(names: &TypeNames, survey: &mut Survey, callee: &Expr, a
 
 /// A call that is written with these arguments and a closure after them.
 #[tactic(auto, using(crate::proofs::Walked::arg_count_is))]
-pub(crate) fn note_closing_call(names: &TypeNames, survey: &mut Survey, callee: &Expr, arguments: &[Argument])
+pub(crate) fn note_closing_call(
+    names: &TypeNames,
+    survey: &mut Survey,
+    callee: &Expr,
+    arguments: &[Argument],
+)
     ensures { survey.new ≡ notes (written_in names.now) survey.old (print_call (expr_view callee.now) (suc (arg_count (args_of (map argument_view arguments.now))))) }
 {
     note_print(names, survey, callee, arguments.len() + 1);
 }
 
 /// Names that have to be different.
-pub(crate) fn note_scope(alloc: Global, survey: &mut Survey, names: &[&Name]) -> Result<(), AllocError>
+pub(crate) fn note_scope(
+    alloc: Global,
+    survey: &mut Survey,
+    names: &[&Name],
+) -> Result<(), AllocError>
     ensures { OnOk result (survey.new ≡ scope_walk (map (λ n. n.now) names.now) survey.old) }
 {
     if let Some(at) = first_repeated(alloc, names)? {
@@ -97,7 +111,11 @@ fn push_local<'t>(names: &mut Vec<&'t Name>, statement: &'t Stmt) -> Result<(), 
 
 /// The names that statements declare are a scope.
 #[tactic(auto, using(crate::proofs::Walked::next_local))]
-pub(crate) fn note_locals(alloc: Global, survey: &mut Survey, statements: &[Stmt]) -> Result<(), AllocError>
+pub(crate) fn note_locals(
+    alloc: Global,
+    survey: &mut Survey,
+    statements: &[Stmt],
+) -> Result<(), AllocError>
     ensures { OnOk result (survey.new ≡ scope_walk (local_names (stms_of (map stmt_view statements.now))) survey.old) }
 {
     let mut names = Vec::new(alloc);
@@ -119,7 +137,11 @@ fn push_written<'t>(names: &mut Vec<&'t Name>, written: &'t Option<Name>) -> Res
 
 /// The names before the `in` of a closure.
 #[tactic(auto, using(crate::proofs::Walked::next_written))]
-fn note_closure_names(alloc: Global, survey: &mut Survey, written: &[Option<Name>]) -> Result<(), AllocError>
+fn note_closure_names(
+    alloc: Global,
+    survey: &mut Survey,
+    written: &[Option<Name>],
+) -> Result<(), AllocError>
     ensures { OnOk result (survey.new ≡ scope_walk (closure_names written.now) survey.old) }
 {
     let mut names = Vec::new(alloc);
@@ -130,7 +152,11 @@ fn note_closure_names(alloc: Global, survey: &mut Survey, written: &[Option<Name
 }
 
 /// A closure is a body, and its names are a scope.
-pub(crate) fn note_closure(alloc: Global, survey: &mut Survey, closure: &Closure) -> Result<(), AllocError>
+pub(crate) fn note_closure(
+    alloc: Global,
+    survey: &mut Survey,
+    closure: &Closure,
+) -> Result<(), AllocError>
     ensures { OnOk result (survey.new ≡ closure_head_walk (closure_view closure.now) survey.old) }
 {
     let at = Span {
@@ -198,7 +224,11 @@ fn push_parts<'t>(names: &mut Vec<&'t Name>, parts: &'t [Pattern]) -> Result<(),
 }
 
 /// The names of a pattern are a scope.
-pub(crate) fn note_pattern(alloc: Global, survey: &mut Survey, pattern: &Pattern) -> Result<(), AllocError>
+pub(crate) fn note_pattern(
+    alloc: Global,
+    survey: &mut Survey,
+    pattern: &Pattern,
+) -> Result<(), AllocError>
     ensures { OnOk result (survey.new ≡ scope_walk (pat_names (pattern_view pattern.now)) survey.old) }
 {
     let mut names = Vec::new(alloc);
@@ -207,7 +237,11 @@ pub(crate) fn note_pattern(alloc: Global, survey: &mut Survey, pattern: &Pattern
 }
 
 /// The names of each pattern of a clause are a scope.
-pub(crate) fn note_patterns(alloc: Global, survey: &mut Survey, patterns: &[Pattern]) -> Result<(), AllocError>
+pub(crate) fn note_patterns(
+    alloc: Global,
+    survey: &mut Survey,
+    patterns: &[Pattern],
+) -> Result<(), AllocError>
     ensures { OnOk result (survey.new ≡ pats_walk (pats_of (map pattern_view patterns.now)) survey.old) }
 {
     for pattern in patterns {

@@ -3,10 +3,10 @@
 ghost use Rattle.std.specs.Prelude.{◌≡◌, IfOk, map};
 ghost use Rattle.own_table.specs.Judgements.{repeated};
 
+use indexmap::IndexSet;
 use own_tree::Span;
 use own_tree::tree::Name;
 use std::alloc::{AllocError, Global};
-use indexmap::IndexSet;
 
 /// The place of the first name that stood before.
 pub(crate) fn first_repeated(alloc: Global, names: &[&Name]) -> Result<Option<Span>, AllocError>

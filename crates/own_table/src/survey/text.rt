@@ -9,11 +9,15 @@ ghost use Rattle.own_table.specs.Types.{declared_types};
 ghost use Rattle.own_table.specs.TextWalks.{top_walk, main_walk, declaration_walk, declarations_walk, file_walk};
 ghost use Rattle.own_table.specs.Walks.{scope_walk};
 
-use crate::survey::declarations::{fault_unless, walk_enum_members, walk_function, walk_struct_members};
+use crate::survey::declarations::{
+    fault_unless, walk_enum_members, walk_function, walk_struct_members,
+};
 use crate::survey::names::TypeNames;
 use crate::survey::notes::note_scope;
 use crate::survey::{Judgement, Survey};
-use own_tree::tree::{CaseItem, Declaration, EnumMember, FunctionDeclaration, Name, ResultType, StructMember, Tree};
+use own_tree::tree::{
+    CaseItem, Declaration, EnumMember, FunctionDeclaration, Name, ResultType, StructMember, Tree,
+};
 use std::alloc::{AllocError, Global};
 
 /// Whether a name may not be declared at the top.
@@ -69,7 +73,10 @@ fn push_items<'t>(names: &mut Vec<&'t Name>, cases: &'t [CaseItem]) -> Result<()
 }
 
 /// The names of a member of a struct.
-fn push_struct_member<'t>(names: &mut Vec<&'t Name>, member: &'t StructMember) -> Result<(), AllocError>
+fn push_struct_member<'t>(
+    names: &mut Vec<&'t Name>,
+    member: &'t StructMember,
+) -> Result<(), AllocError>
     ensures { OnOk result (map (λ n. n.now) names.new.items ≡ map (λ n. n.now) names.old.items ++ names_of_member (struct_member_view member.now)) }
 {
     match member {
@@ -101,7 +108,11 @@ fn push_enum_member<'t>(names: &mut Vec<&'t Name>, member: &'t EnumMember) -> Re
 
 /// The members of a struct are a scope.
 #[tactic(auto, using(crate::proofs::Walked::next_struct_member))]
-fn note_struct_names(alloc: Global, survey: &mut Survey, members: &[StructMember]) -> Result<(), AllocError>
+fn note_struct_names(
+    alloc: Global,
+    survey: &mut Survey,
+    members: &[StructMember],
+) -> Result<(), AllocError>
     ensures { OnOk result (survey.new ≡ scope_walk (member_names (map struct_member_view members.now)) survey.old) }
 {
     let mut names = Vec::new(alloc);
@@ -113,7 +124,11 @@ fn note_struct_names(alloc: Global, survey: &mut Survey, members: &[StructMember
 
 /// The members of an enum are a scope.
 #[tactic(auto, using(crate::proofs::Walked::next_enum_member))]
-fn note_enum_names(alloc: Global, survey: &mut Survey, members: &[EnumMember]) -> Result<(), AllocError>
+fn note_enum_names(
+    alloc: Global,
+    survey: &mut Survey,
+    members: &[EnumMember],
+) -> Result<(), AllocError>
     ensures { OnOk result (survey.new ≡ scope_walk (member_names (map enum_member_view members.now)) survey.old) }
 {
     let mut names = Vec::new(alloc);
@@ -124,19 +139,36 @@ fn note_enum_names(alloc: Global, survey: &mut Survey, members: &[EnumMember]) -
 }
 
 /// A declaration.
-fn walk_declaration(alloc: Global, names: &TypeNames, survey: &mut Survey, declaration: &Declaration) -> Result<(), AllocError>
+fn walk_declaration(
+    alloc: Global,
+    names: &TypeNames,
+    survey: &mut Survey,
+    declaration: &Declaration,
+) -> Result<(), AllocError>
     ensures { OnOk result (survey.new ≡ declaration_walk (written_in names.now) (declaration_view declaration.now) survey.old) }
 {
     match declaration {
         Declaration::Struct(declared) => {
             note_top(survey, &declared.name);
             note_struct_names(alloc, survey, declared.members.as_slice())?;
-            walk_struct_members(alloc, names, survey, declared.noncopyable, declared.members.as_slice())
+            walk_struct_members(
+                alloc,
+                names,
+                survey,
+                declared.noncopyable,
+                declared.members.as_slice(),
+            )
         }
         Declaration::Enum(declared) => {
             note_top(survey, &declared.name);
             note_enum_names(alloc, survey, declared.members.as_slice())?;
-            walk_enum_members(alloc, names, survey, declared.noncopyable, declared.members.as_slice())
+            walk_enum_members(
+                alloc,
+                names,
+                survey,
+                declared.noncopyable,
+                declared.members.as_slice(),
+            )
         }
         Declaration::Function(function) => {
             note_top(survey, &function.name);
@@ -147,7 +179,12 @@ fn walk_declaration(alloc: Global, names: &TypeNames, survey: &mut Survey, decla
 }
 
 /// The declarations, one after the other.
-fn walk_declarations(alloc: Global, names: &TypeNames, survey: &mut Survey, declarations: &[Declaration]) -> Result<(), AllocError>
+fn walk_declarations(
+    alloc: Global,
+    names: &TypeNames,
+    survey: &mut Survey,
+    declarations: &[Declaration],
+) -> Result<(), AllocError>
     ensures { OnOk result (survey.new ≡ declarations_walk (written_in names.now) (map declaration_view declarations.now) survey.old) }
 {
     for declaration in declarations {
@@ -169,7 +206,11 @@ fn name_of(declaration: &Declaration) -> &Name
 
 /// The names at the top are a scope.
 #[tactic(auto, using(crate::proofs::Walked::next_name))]
-fn note_top_names(alloc: Global, survey: &mut Survey, declarations: &[Declaration]) -> Result<(), AllocError>
+fn note_top_names(
+    alloc: Global,
+    survey: &mut Survey,
+    declarations: &[Declaration],
+) -> Result<(), AllocError>
     ensures { OnOk result (survey.new ≡ scope_walk (map declared_name (map declaration_view declarations.now)) survey.old) }
 {
     let mut names = Vec::new(alloc);

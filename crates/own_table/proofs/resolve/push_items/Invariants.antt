@@ -1,0 +1,7 @@
+use Rattle.std.proofs.Common.{◌≡◌, ◌++◌, map, take}
+use Rattle.own_table.specs.Numbers.{written_by}
+use Rattle.own_table.specs.Types.{resolved_case}
+use Rattle.own_table.proofs.resolve.push_items.Given as goal
+
+abbrev pub invariant-loop-item : goal.invariant-loop-item
+invariant-loop-item l = l.cases ≡ l.initial.cases ++ map (resolved_case (written_by l.numbers)) (take l.item-index l.items)

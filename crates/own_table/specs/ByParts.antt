@@ -1,0 +1,66 @@
+-- What is computed of a type from what is computed of its parts.
+use Rattle.std.specs.Prelude.{◌≡◌, ℕ, suc, Bool, false, ◌||◌, if◌then◌else◌, List, [], ◌∷◌, ◌++◌, map, slice_get, Option, Some, None}
+use Rattle.own_tree.specs.declared.place.Ty.{Ty}
+use Rattle.own_tree.specs.declared.place.Ty.TheVariants as type
+use Rattle.own_table.specs.declared.info.CaseInfo.{CaseInfo}
+use Rattle.own_table.specs.declared.info.FieldInfo.{FieldInfo}
+use Rattle.own_table.specs.declared.info.Measure.{Measure}
+use Rattle.own_table.specs.declared.info.TypeInfo.{TypeInfo}
+use Rattle.own_table.specs.declared.measure.Unmeasured.{Unmeasured}
+use Rattle.own_table.specs.declared.measure.Unmeasured.TheVariants as unmeasured
+use Rattle.own_table.specs.Extents.{is_nil, first_over_M8}
+use Rattle.own_table.specs.Types.{field_types}
+
+abbrev pub leaves_at : Option Measure → List (List ℕ)
+leaves_at None = []
+leaves_at (Some m) = m.leaves
+
+abbrev pub part_leaves : List Measure → Ty → List (List ℕ)
+part_leaves ms type.Int = [] ∷ []
+part_leaves ms type.Bool = [] ∷ []
+part_leaves ms type.Unit = [] ∷ []
+part_leaves ms (type.Fun k) = [] ∷ []
+part_leaves ms (type.Named k) = leaves_at (slice_get ms k)
+
+-- those of the properties from number k on
+abbrev pub field_leaves : List Measure → ℕ → List FieldInfo → List (List ℕ)
+field_leaves ms k [] = []
+field_leaves ms k (f ∷ fs) = map (λ path. k ∷ path) (part_leaves ms f.ty) ++ field_leaves ms (suc k) fs
+
+abbrev pub leaves_by_parts : List Measure → TypeInfo → List (List ℕ)
+leaves_by_parts ms t = if t.is_enum || (t.has_deinit || is_nil t.fields) then [] ∷ [] else field_leaves ms 0 t.fields
+
+abbrev pub holds_at : Option Measure → Bool
+holds_at None = false
+holds_at (Some m) = m.holds_tracked
+
+abbrev pub part_holds : List Measure → Ty → Bool
+part_holds ms type.Int = false
+part_holds ms type.Bool = false
+part_holds ms type.Unit = false
+part_holds ms (type.Fun k) = false
+part_holds ms (type.Named k) = holds_at (slice_get ms k)
+
+abbrev pub one_holds : List Measure → List Ty → Bool
+one_holds ms [] = false
+one_holds ms (ty ∷ tys) = part_holds ms ty || one_holds ms tys
+
+abbrev pub one_case_holds : List Measure → List CaseInfo → Bool
+one_case_holds ms [] = false
+one_case_holds ms (c ∷ cs) = one_holds ms c.payloads || one_case_holds ms cs
+
+abbrev pub holds_by_parts : List Measure → TypeInfo → Bool
+holds_by_parts ms t = if t.is_enum then one_case_holds ms t.cases else t.has_deinit || one_holds ms (field_types t.fields)
+
+abbrev pub measure_by_parts : List Measure → ℕ → TypeInfo → Measure
+measure_by_parts ms n t = record { holds_tracked = holds_by_parts ms t; slots = n; leaves = leaves_by_parts ms t }
+
+abbrev pub slots_at : Option (Option ℕ) → ℕ
+slots_at None = 0
+slots_at (Some None) = 0
+slots_at (Some (Some n)) = n
+
+-- why there is no table of types in an order: the first type over M8
+abbrev pub IsOver : List TypeInfo → Unmeasured → Type 0
+IsOver ts (unmeasured.Over o) = first_over_M8 ts ≡ Some o
+IsOver ts unmeasured.Memory = Unit {0}
