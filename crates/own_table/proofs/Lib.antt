@@ -13,6 +13,7 @@ pub mod FewLeaves
 pub mod Fitted
 pub mod Numbered
 pub mod Resolved
+pub mod TypeLimited
 pub mod Causes
 pub mod Sound
 pub mod TraceFacts

@@ -8,6 +8,7 @@ pub mod Fitting
 pub mod Numbers
 pub mod Resolving
 pub mod Unfit
+pub mod TypeLimits
 pub mod Settling
 pub mod Within
 pub mod Captures

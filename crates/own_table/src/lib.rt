@@ -7,6 +7,7 @@ pub mod extent;
 mod fitting;
 pub mod info;
 pub mod laws;
+mod limit;
 mod mark;
 mod measure;
 mod names;
