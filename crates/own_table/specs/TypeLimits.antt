@@ -4,7 +4,8 @@ use Rattle.own_tree.specs.declared.span.Span.{Span}
 use Rattle.own_table.specs.declared.extent.Over.{Over}
 use Rattle.own_table.specs.declared.info.TypeInfo.{TypeInfo}
 use Rattle.own_table.specs.declared.limit.Passed.{Passed}
-use Rattle.own_table.specs.Limits.{Counted, counted, type_names}
+use Rattle.own_table.specs.declared.survey.Counted.{Counted}
+use Rattle.own_table.specs.Limits.{counted, type_names}
 use Rattle.own_table.specs.Types.{Declared}
 
 abbrev pub at_span : ℕ → Option Span → Option Counted

@@ -1,7 +1,9 @@
 use super::*;
 use crate::limit::{over_types, type_spans};
 use crate::resolve::resolved_types;
-use own_tree::tree::{Declaration, Field, Keyword, Name, StructDeclaration, StructMember};
+use crate::survey::Judgement;
+use crate::survey::text::survey;
+use own_tree::tree::{Declaration, Field, Keyword, Name, StructDeclaration, StructMember, Tree};
 use own_tree::{Bytes, Row, Span, Ty};
 use std::alloc::{AllocError, Global};
 use std::test::*;
@@ -296,6 +298,38 @@ fn names_stand_for_the_first_type_of_that_name(rt: HostRuntime) -> Result<(), Fa
     for (written, expected) in rows {
         let tys = first_fields(rt.alloc(), written).ok().ok_or("memory")?;
         assert_eq!(rt; tys.as_ref().map(|tys| tys.as_slice()), expected);
+    }
+    Ok(())
+}
+
+/// The judgement that is false of a text with a struct `A`, this struct, and no `func main`.
+fn judged(alloc: Global, name: &[u8], written: &[&[u8]]) -> Result<Option<Judgement>, AllocError> {
+    let mut declarations = Row::new(alloc);
+    declarations.push(declared_struct(alloc, b"A", &[b"Int"])?)?;
+    declarations.push(declared_struct(alloc, name, written)?)?;
+    let tree = Tree {
+        declarations,
+        main: SPAN,
+        tokens: 9,
+    };
+    match survey(alloc, &tree)?.fault {
+        Some(fault) => Ok(Some(fault.judgement)),
+        None => Ok(None),
+    }
+}
+
+#[test]
+fn the_first_false_judgement_of_one_place_is_named(rt: HostRuntime) -> Result<(), Fail> {
+    let rows: [(&[u8], &[&[u8]], Judgement); 5] = [
+        (b"B", &[b"A"], Judgement::TopNames),
+        (b"A", &[b"D"], Judgement::DifferentNames),
+        (b"B", &[b"D"], Judgement::KnownType),
+        (b"B", &[b"Int", b"Bool"], Judgement::DifferentNames),
+        (b"print", &[b"D"], Judgement::TopNames),
+    ];
+    for (name, written, expected) in rows {
+        let found = judged(rt.alloc(), name, written).ok().ok_or("memory")?;
+        assert_eq!(rt; found, Some(expected));
     }
     Ok(())
 }
