@@ -6,8 +6,10 @@ use Rattle.own_tree.specs.declared.limits.TheConstants.{MOST_TYPES, MOST_FIELDS,
 use Rattle.own_tree.specs.declared.span.Span.{Span}
 use Rattle.own_tree.specs.TypedSource.{TBody, Program}
 use Rattle.own_table.specs.BodyLimits.{body_slots, op_count, maker_count, passing_body, sum_of_ops}
-use Rattle.own_table.specs.Limits.{Counted, counted, first_over, too_many, type_names, part_counts, body_places, declared_parts, taken_counts, slot_counts}
+use Rattle.own_table.specs.declared.survey.Counted.{Counted}
+use Rattle.own_table.specs.Limits.{counted, first_over, too_many, type_names, part_counts, body_places, taken_counts, slot_counts}
 use Rattle.own_table.specs.Laws.{IsOver, LimitsAreExceeded, SettledLeavesAreNotAmbiguous}
+use Rattle.own_table.specs.Parts.{file_parts}
 use Rattle.own_table.specs.Makers.{tree_of, uses_of}
 use Rattle.own_table.specs.Ops.{body_ops}
 use Rattle.own_table.specs.Types.{Types, declared_types}
@@ -55,8 +57,8 @@ pub limits_are_exceeded : LimitsAreExceeded
 limits_are_exceeded = record {
   types = λ file. many_are_over MOST_TYPES (type_names (declared_types file.declarations));
   fields = λ file. first_is_over MOST_FIELDS (part_counts (declared_types file.declarations));
-  bodies = λ file. many_are_over MOST_BODIES (body_places (declared_parts file.declarations));
-  parameters = λ file. first_is_over MOST_PARAMETERS (taken_counts (declared_parts file.declarations));
+  bodies = λ file. many_are_over MOST_BODIES (body_places (file_parts file));
+  parameters = λ file. first_is_over MOST_PARAMETERS (taken_counts (file_parts file));
   type_slots = λ types file. first_is_over MOST_TYPE_SLOTS (slot_counts types MOST_TYPE_SLOTS (declared_types file.declarations) 0 (declared_types file.declarations));
   body_slots = λ types program k body. first_is_over MOST_BODY_SLOTS (counted (body_slots types program k body) body.span ∷ []);
   body_ops = λ types program k body. first_is_over MOST_BODY_OPS (counted (op_count (body_ops types program body)) body.span ∷ []);

@@ -13,6 +13,7 @@ pub mod FewLeaves
 pub mod Fitted
 pub mod Numbered
 pub mod Resolved
+pub mod TypeLimited
 pub mod Causes
 pub mod Sound
 pub mod TraceFacts
@@ -28,3 +29,7 @@ pub mod Accepted
 pub mod Single
 pub mod Proved
 pub mod Exceeded
+pub mod Repeats
+pub mod Known
+pub mod Walked
+pub mod Surveyed

@@ -1,13 +1,14 @@
 -- The numbers of the declared types by name.
-use Rattle.std.proofs.Common.{◌≡◌, ℕ, suc, ◌+◌, ◌<◌, ◌≤◌, Bool, true, false, List, [], ◌∷◌, ◌++◌, length, map, take, get_or, Option, Some, None, refl, sym, ap, ◌∙◌, arith, length-append}
+use Rattle.std.proofs.Common.{◌≡◌, ℕ, suc, ◌+◌, ◌<◌, ◌≤◌, Bool, true, false, List, [], ◌∷◌, ◌++◌, length, map, take, drop, get_or, Option, Some, None, refl, sym, ap, ◌∙◌, arith, length-append}
 use Rattle.std.specs.Prelude.{if◌then◌else◌, cond, codes, is_some}
 use Rattle.std.specs.BTreeMap.{UpdatesBy}
 use Rattle.std.specs.Cmp.Lexicographic.{slice_cmp}
 use Rattle.std.specs.Ordering.{nat_cmp}
 use Rattle.std.specs.Str.{bytes_eq}
-use Rattle.std.proofs.lemmas.List.{take_more, map-append, append-nil}
+use Rattle.std.proofs.lemmas.List.{take_more, take-append-drop, map-append, append-nil}
 use Rattle.std.proofs.lemmas.Map.Text.{btree_map_updates_str}
 use Rattle.std.proofs.lemmas.Slice.Eq.{bytes_eq-Decides}
+use Rattle.own_tree.specs.declared.limits.TheConstants.{MOST_TYPES}
 use Rattle.own_tree.specs.declared.place.Ty.TheVariants as type
 use Rattle.own_tree.specs.declared.tree.Declaration.{Declaration}
 use Rattle.own_tree.specs.Source.{Decl, struct_of, enum_of, function}
@@ -130,12 +131,19 @@ module _ (xs : List Declaration) (i : ℕ) (x : Declaration) (lt : i < length xs
       by_name None e = ap (λ o. counted_with o number) e ∙ counted_same xs i x lt is number e counted
       by_name (Some name) e = ap (λ o. counted_with o number) e ∙ counted_more xs i x lt is name number e counted
 
-  counted_small : (o : Option (List ℕ)) (number : ℕ) → counted_with o number ≤ number + 1
-  counted_small None number = omega arith
-  counted_small (Some name) number = omega arith
+-- a front has no more types
+declared_front : (xs : List Declaration) (i : ℕ) → length (declared_types (map declaration_view (take i xs))) ≤ length (declared_types (map declaration_view xs))
+declared_front xs i =
+    let front = declared_types (map declaration_view (take i xs)) in
+    let back = declared_types (map declaration_view (drop i xs)) in
+    let all : declared_types (map declaration_view xs) ≡ front ++ back =
+    ap (λ l. declared_types (map declaration_view l)) (sym (take-append-drop i xs))
+    ∙ ap declared_types (map-append declaration_view (take i xs) (drop i xs))
+    ∙ declared_types-append (map declaration_view (take i xs)) (map declaration_view (drop i xs)) in
+    omega (arith, length-append front back, ap length all)
 
-  pub small_next : (number next : ℕ) → number ≤ i → next ≡ counted_with (type_name (declaration_view x)) number → next ≤ i + 1
-  small_next number next small becomes = omega (arith, small, becomes, counted_small (type_name (declaration_view x)) number)
+pub count_fits : (xs : List Declaration) (i number : ℕ) → number ≡ length (declared_types (map declaration_view (take i xs))) → length (declared_types (map declaration_view xs)) ≤ MOST_TYPES → number ≤ MOST_TYPES
+count_fits xs i number counted few = omega (arith, counted, few, declared_front xs i)
 
 -- ---- what names stand for
 

@@ -18,7 +18,7 @@ use Rattle.own_table.specs.Resolving.{member_fields, member_cases, declared_info
 use Rattle.own_table.specs.Types.{declared_types, fields_of, cases_of, has_deinit, written_type, resolved_field, resolved_case, resolved_by, resolved_types}
 use Rattle.own_table.proofs.Numbered.{declared_types-append, written_same}
 
-more_of : {X Y : Type 0} (F : List X → List Y) → ((xs ys : List X) → F (xs ++ ys) ≡ F xs ++ F ys) → (xs : List X) (i : ℕ) (x : X) → i < length xs → x ≡ get_or xs i x
+pub more_of : {X Y : Type 0} (F : List X → List Y) → ((xs ys : List X) → F (xs ++ ys) ≡ F xs ++ F ys) → (xs : List X) (i : ℕ) (x : X) → i < length xs → x ≡ get_or xs i x
     → F (take (i + 1) xs) ≡ F (take i xs) ++ F (x ∷ [])
 more_of F joins xs i x lt is =
     ap F (take_more xs i x lt) ∙ ap (λ y. F (take i xs ++ y ∷ [])) (sym is) ∙ joins (take i xs) (x ∷ [])

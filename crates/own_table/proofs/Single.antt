@@ -1,5 +1,5 @@
 -- Worked uses that break fixed rules, or do not, and the parts of a text that M6 and M7 count.
-use Rattle.std.specs.Prelude.{◌≡◌, ℕ, false, List, [], ◌∷◌, None, codes, refl}
+use Rattle.std.specs.Prelude.{◌≡◌, ℕ, true, false, List, [], ◌∷◌, None, codes, refl}
 use Rattle.own_tree.specs.declared.finding.Finding.{Finding}
 use Rattle.own_tree.specs.declared.finding.Rule.TheVariants as rule
 use Rattle.own_tree.specs.declared.place.Binding.{Binding}
@@ -14,7 +14,7 @@ use Rattle.own_tree.specs.declared.typed.Target.TheVariants as target
 use Rattle.own_tree.specs.Source.{Exp, number as number_, path as path_, call as call_, call_closure, value, no_args, arg, closure as closure_, evaluate as evaluate_, no_stms as no_stms_, stm as stm_, block as block_, Decl, function}
 use Rattle.own_tree.specs.TypedSource.{pat, no_pats, any, TExp, call, address, closure, TStm, assign, switch, case_of, clause, no_clauses, TBody, Program}
 use Rattle.own_table.specs.Fixed.{broken, fixed_breaks}
-use Rattle.own_table.specs.Limits.{a_body, a_print, declared_parts}
+use Rattle.own_table.specs.Parts.{a_body, a_print, a_scope, a_top, a_main, declared_parts}
 use Rattle.own_table.specs.Places.{whole}
 use Rattle.own_table.specs.Types.{types_declared}
 use Rattle.own_table.proofs.Spelling.{sp, at, node, named, file_, in_place, path_at, p, num, exps, stms, blk, bound, body_of, program_of, do_, take_, file_types}
@@ -132,5 +132,7 @@ main_decl =
           );
     })
 
-parts_in_order : declared_parts (main_decl ∷ []) ≡ a_body (sp 106) 0 ∷ a_print (sp 203) 2 ∷ a_body (sp 308) 1 ∷ []
+parts_in_order : declared_parts (main_decl ∷ [])
+    ≡ a_top (named 106 (codes "main")) ∷ a_main true (sp 106) ∷ a_body (sp 106) 0 ∷ a_scope [] ∷ a_scope []
+    ∷ a_print (sp 203) 2 ∷ a_body (sp 308) 1 ∷ a_scope [] ∷ a_scope [] ∷ []
 parts_in_order = refl

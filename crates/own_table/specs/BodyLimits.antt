@@ -17,7 +17,8 @@ use Rattle.own_tree.specs.declared.typed.Target.TheVariants as target
 use Rattle.own_tree.specs.OpSource.{Ops, op, nothing, next, either, loop, catch, scope, break_at, continue_at, return_at, halt}
 use Rattle.own_tree.specs.TypedSource.{TExp, number, text, truth, path, parenthesized, consumed, negated, inverted, arithmetic, wrapping, compared, logic, choice, member, call, address, closure, function, TExps, no_exps, exp, TStm, let_in, declare, ignore, assign, update, discard_self, if_then, if_else, else_if, loop_while, loop_repeat, loop_for, switch, leave, go_on, return_none, return_value, evaluate, TBody, Program}
 use Rattle.own_table.specs.Captures.{captures, first_passing, other_passings}
-use Rattle.own_table.specs.Limits.{Counted, counted, first_over}
+use Rattle.own_table.specs.declared.survey.Counted.{Counted}
+use Rattle.own_table.specs.Limits.{counted, first_over}
 use Rattle.own_table.specs.Makers.{BodyUses, tree_of, uses_of}
 use Rattle.own_table.specs.Ops.{body_ops}
 use Rattle.own_table.specs.Places.{whole, covers}

@@ -15,7 +15,8 @@ use Rattle.own_tree.specs.declared.limits.TheConstants.{MOST_TYPES, MOST_FIELDS,
 use Rattle.own_tree.specs.Source.{File}
 use Rattle.own_table.specs.BodyLimits.{over_M9, over_M10, over_M11, over_M12, over_M13}
 use Rattle.own_table.specs.Facts.{IsFact, Destroys, IsAmbiguous}
-use Rattle.own_table.specs.Limits.{Counted, over_M4, over_M5, over_M6, over_M7, over_M8}
+use Rattle.own_table.specs.declared.survey.Counted.{Counted}
+use Rattle.own_table.specs.Limits.{over_M4, over_M5, over_M6, over_M7, over_M8}
 use Rattle.own_table.specs.Findings.{Precedes, IsSameBreak, BreaksAtOp, BreaksAtReturn, FallsOff, IsBodyFinding, ArePathFindings, AreFixedFindings, AreFindings, IsSound}
 use Rattle.own_table.specs.Fixed.{binding_leaves, breaks_O8, place_of, fixed_breaks}
 use Rattle.own_table.specs.Makers.{BodyUses, uses_of}

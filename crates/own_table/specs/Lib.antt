@@ -8,6 +8,7 @@ pub mod Fitting
 pub mod Numbers
 pub mod Resolving
 pub mod Unfit
+pub mod TypeLimits
 pub mod Settling
 pub mod Within
 pub mod Captures
@@ -18,6 +19,11 @@ pub mod Fixed
 pub mod Makers
 pub mod Findings
 pub mod Facts
+pub mod Parts
 pub mod Limits
+pub mod Judgements
+pub mod Names
+pub mod Walks
+pub mod TextWalks
 pub mod BodyLimits
 pub mod Laws

@@ -1,5 +1,5 @@
 -- The op tree of a typed body, by cases on its nodes: each occurrence of a place, in order of evaluation.
-use Rattle.std.specs.Prelude.{ℕ, suc, ◌-◌, Bool, true, false, not, ◌&&◌, if◌then◌else◌, List, [], ◌∷◌, ◌++◌, map, slice_get, Option, Some, None}
+use Rattle.std.specs.Prelude.{ℕ, suc, min, ◌-◌, Bool, true, false, not, ◌&&◌, if◌then◌else◌, List, [], ◌∷◌, ◌++◌, map, slice_get, Option, Some, None}
 use Rattle.own_tree.specs.declared.op.OpKind.{OpKind}
 use Rattle.own_tree.specs.declared.op.OpKind.TheVariants as kind
 use Rattle.own_tree.specs.declared.place.Binding.{Binding}
@@ -113,7 +113,7 @@ at_entry x (Some b) = at_name (entry_kind b.mode) 0 x (Some b)
 
 -- the `{` of a literal, its first byte
 abbrev pub opening : Span → Span
-opening s = record { start = s.start; end = suc s.start }
+opening s = record { start = s.start; end = min (suc s.start) s.end }
 
 -- the `}` of a block or a `switch`, its last byte
 abbrev pub closing : Span → Span

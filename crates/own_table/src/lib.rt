@@ -7,11 +7,13 @@ pub mod extent;
 mod fitting;
 pub mod info;
 pub mod laws;
+mod limit;
 mod mark;
 mod measure;
 mod names;
 mod order;
 mod resolve;
+pub mod survey;
 pub mod table;
 #[cfg(test)]
 mod tests;

@@ -2,8 +2,10 @@
 
 ghost use Rattle.std.specs.Prelude.{◌≡◌, ◌≤◌, ◌<◌, ◌+◌, ◌^◌, length, map, IfOk, OnOk};
 ghost use Rattle.std.specs.Option.{option_copied};
+ghost use Rattle.own_tree.specs.declared.limits.TheConstants.{MOST_TYPES};
 ghost use Rattle.own_tree.specs.View.{declaration_view};
 ghost use Rattle.own_table.specs.Numbers.{AddsName, AddsType, IsNumbering, counted_with, type_name, written_by};
+ghost use Rattle.own_table.specs.Types.{declared_types};
 
 use own_tree::Ty;
 use own_tree::tree::Declaration;
@@ -59,7 +61,7 @@ pub fn type_numbers<'a>(
     alloc: Global,
     declarations: &'a [Declaration],
 ) -> Result<BTreeMap<&'a [u8], u32>, AllocError>
-    requires { length declarations.now + 1 < 2 ^ 32 }
+    requires { length (declared_types (map declaration_view declarations.now)) ≤ MOST_TYPES }
     ensures { IfOk result (IsNumbering (map declaration_view declarations.now)) }
 {
     let mut numbers = BTreeMap::new(alloc);

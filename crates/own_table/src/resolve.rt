@@ -1,7 +1,8 @@
 //! The declarations of a tree, with each name resolved.
 
-ghost use Rattle.std.specs.Prelude.{true, false, ◌≡◌, ◌+◌, ◌<◌, ◌^◌, ◌++◌, ◌∷◌, [], length, map, IfOk, OnOk};
+ghost use Rattle.std.specs.Prelude.{true, false, ◌≡◌, ◌≤◌, ◌++◌, ◌∷◌, [], length, map, IfOk, OnOk};
 ghost use Rattle.std.specs.List.{list_any};
+ghost use Rattle.own_tree.specs.declared.limits.TheConstants.{MOST_TYPES};
 ghost use Rattle.own_tree.specs.View.{declaration_view, enum_member_view, struct_member_view};
 ghost use Rattle.own_table.specs.Numbers.{IsNumbering, written_by};
 ghost use Rattle.own_table.specs.Resolving.{declared_infos, is_deinitializer, member_cases, member_fields};
@@ -259,7 +260,7 @@ pub fn resolved_types(
     alloc: Global,
     declarations: &[Declaration],
 ) -> Result<Row<TypeInfo>, AllocError>
-    requires { length declarations.now + 1 < 2 ^ 32 }
+    requires { length (declared_types (map declaration_view declarations.now)) ≤ MOST_TYPES }
     ensures { IfOk result (λ infos. infos ≡ resolved_types (declared_types (map declaration_view declarations.now))) }
 {
     let numbers = type_numbers(alloc, declarations)?;

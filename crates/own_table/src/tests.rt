@@ -1,5 +1,10 @@
 use super::*;
-use own_tree::{Bytes, Row, Ty};
+use crate::limit::{over_types, type_spans};
+use crate::resolve::resolved_types;
+use crate::survey::Judgement;
+use crate::survey::text::survey;
+use own_tree::tree::{Declaration, Field, Keyword, Name, StructDeclaration, StructMember, Tree};
+use own_tree::{Bytes, Row, Span, Ty};
 use std::alloc::{AllocError, Global};
 use std::test::*;
 
@@ -221,5 +226,110 @@ fn a_text_has_at_most_1000_types(rt: HostRuntime) -> Result<(), Fail> {
     assert_eq!(rt; leaf(&table, 0, 0).map(|path| path.len()), Some(999));
     let types = nested(alloc, 1_001).ok().ok_or("memory")?;
     assert_eq!(rt; unfit(alloc, types), Some(Unfit::Parts));
+    Ok(())
+}
+
+fn name_of(alloc: Global, text: &[u8]) -> Result<Name, AllocError> {
+    Ok(Name {
+        text: Bytes::from_slice(alloc, text)?,
+        span: SPAN,
+    })
+}
+
+const SPAN: Span = Span { start: 3, end: 5 };
+
+/// A struct with a property of each of these types.
+fn declared_struct(
+    alloc: Global,
+    name: &[u8],
+    written: &[&[u8]],
+) -> Result<Declaration, AllocError> {
+    let mut members = Row::new(alloc);
+    for text in written {
+        members.push(StructMember::Field(Field {
+            span: SPAN,
+            keyword: Keyword::Let,
+            name: name_of(alloc, b"property")?,
+            written: name_of(alloc, *text)?,
+        }))?;
+    }
+    Ok(Declaration::Struct(StructDeclaration {
+        span: SPAN,
+        name: name_of(alloc, name)?,
+        noncopyable: false,
+        members,
+    }))
+}
+
+/// The types of the properties of type 0, if all are types of the text.
+fn first_fields(alloc: Global, written: &[&[u8]]) -> Result<Option<Vec<Ty>>, AllocError> {
+    let mut declarations = Row::new(alloc);
+    declarations.push(declared_struct(alloc, b"A", written)?)?;
+    declarations.push(declared_struct(alloc, b"B", &[b"Bool"])?)?;
+    declarations.push(declared_struct(alloc, b"B", &[b"Int"])?)?;
+    declarations.push(declared_struct(alloc, b"C", &[b"B"])?)?;
+    let mut tys = Vec::new(alloc);
+    let spans = type_spans(alloc, declarations.as_slice())?;
+    if over_types(spans.as_slice()).is_some() {
+        return Ok(None);
+    }
+    let types = resolved_types(alloc, declarations.as_slice())?;
+    let table = match TypeTable::from_types(alloc, types) {
+        Ok(table) => table,
+        Err(_) => return Ok(None),
+    };
+    if table.count() == 0 {
+        return Ok(None);
+    }
+    for field in table.fields(Ty::Named(0)) {
+        tys.push(field.ty)?;
+    }
+    Ok(Some(tys))
+}
+
+#[test]
+fn names_stand_for_the_first_type_of_that_name(rt: HostRuntime) -> Result<(), Fail> {
+    let rows: [(&[&[u8]], Option<&[Ty]>); 4] = [
+        (&[b"Int", b"Bool"], Some(&[Ty::Int, Ty::Bool])),
+        (&[b"B", b"C"], Some(&[Ty::Named(1), Ty::Named(3)])),
+        (&[b"D"], None),
+        (&[b"A"], None),
+    ];
+    for (written, expected) in rows {
+        let tys = first_fields(rt.alloc(), written).ok().ok_or("memory")?;
+        assert_eq!(rt; tys.as_ref().map(|tys| tys.as_slice()), expected);
+    }
+    Ok(())
+}
+
+/// The judgement that is false of a text with a struct `A`, this struct, and no `func main`.
+fn judged(alloc: Global, name: &[u8], written: &[&[u8]]) -> Result<Option<Judgement>, AllocError> {
+    let mut declarations = Row::new(alloc);
+    declarations.push(declared_struct(alloc, b"A", &[b"Int"])?)?;
+    declarations.push(declared_struct(alloc, name, written)?)?;
+    let tree = Tree {
+        declarations,
+        main: SPAN,
+        tokens: 9,
+    };
+    match survey(alloc, &tree)?.fault {
+        Some(fault) => Ok(Some(fault.judgement)),
+        None => Ok(None),
+    }
+}
+
+#[test]
+fn the_first_false_judgement_of_one_place_is_named(rt: HostRuntime) -> Result<(), Fail> {
+    let rows: [(&[u8], &[&[u8]], Judgement); 5] = [
+        (b"B", &[b"A"], Judgement::TopNames),
+        (b"A", &[b"D"], Judgement::DifferentNames),
+        (b"B", &[b"D"], Judgement::KnownType),
+        (b"B", &[b"Int", b"Bool"], Judgement::DifferentNames),
+        (b"print", &[b"D"], Judgement::TopNames),
+    ];
+    for (name, written, expected) in rows {
+        let found = judged(rt.alloc(), name, written).ok().ok_or("memory")?;
+        assert_eq!(rt; found, Some(expected));
+    }
     Ok(())
 }

@@ -1,4 +1,5 @@
-use Rattle.own_table.proofs.Numbered.{numbering_next, counted_next, small_next}
+use Rattle.std.proofs.Common.{arith}
+use Rattle.own_table.proofs.Numbered.{numbering_next, counted_next, count_fits}
 use Rattle.own_table.proofs.names.type_numbers.Goals as goal
 
 pub loop-declaration-preserved : goal.loop-declaration-preserved
@@ -8,5 +9,7 @@ loop-declaration-preserved c =
     record {
       numbering = numbering_next xs i x lt is c.loop-declaration.numbers c.add_type.new.numbers c.loop-declaration.count before.numbering before.counted c.in_ok-count.ensures.adds;
       counted = counted_next xs i x lt is c.loop-declaration.count c.in_ok-count.count before.counted c.in_ok-count.ensures.next;
-      small = small_next xs i x lt is c.loop-declaration.count c.in_ok-count.count before.small c.in_ok-count.ensures.next;
     }
+
+pub add_type-requires : goal.add_type-requires
+add_type-requires c = let few = count_fits c.args.declarations.now c.loop-declaration.declaration-index c.loop-declaration.count c.loop-declaration.invariant.counted c.requires in omega (arith, few)

@@ -1,4 +1,4 @@
-use Rattle.std.proofs.Common.{◌≡◌, ◌≤◌, length, map, take}
+use Rattle.std.proofs.Common.{◌≡◌, length, map, take}
 use Rattle.own_tree.specs.View.{declaration_view}
 use Rattle.own_table.specs.Numbers.{IsNumbering}
 use Rattle.own_table.specs.Types.{declared_types}
@@ -8,5 +8,4 @@ abbrev pub invariant-loop-declaration : goal.invariant-loop-declaration
 invariant-loop-declaration l = record {
   numbering : IsNumbering (map declaration_view (take l.declaration-index l.declarations)) l.numbers;
   counted : l.count ≡ length (declared_types (map declaration_view (take l.declaration-index l.declarations)));
-  small : l.count ≤ l.declaration-index;
 }

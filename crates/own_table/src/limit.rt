@@ -1,0 +1,111 @@
+//! The limits of the types of a text, M4, M5 and M8, at the names of the types.
+
+ghost use Rattle.std.specs.Prelude.{◌≡◌, ◌≤◌, ◌++◌, ◌∷◌, [], length, map, slice_get, IfNone, IfOk, OnOk};
+ghost use Rattle.std.specs.Option.{option_map};
+ghost use Rattle.own_tree.specs.declared.limits.TheConstants.{MOST_FIELDS, MOST_TYPES};
+ghost use Rattle.own_tree.specs.View.{declaration_view};
+ghost use Rattle.own_table.specs.Limits.{first_over, too_many, type_names};
+ghost use Rattle.own_table.specs.TypeLimits.{at_span, counted_by, counts_of, part_count};
+ghost use Rattle.own_table.specs.Types.{declared_types};
+
+use crate::extent::Over;
+use crate::info::TypeInfo;
+use own_tree::limits::{MOST_FIELDS, MOST_TYPES};
+use own_tree::tree::Declaration;
+use own_tree::{Row, Span};
+use std::alloc::{AllocError, Global};
+
+/// What passes a limit: the count, and the place that is named.
+#[derive(Clone, Copy, Debug, PartialEq, Eq)]
+pub struct Passed {
+    pub count: u64,
+    pub at: Span,
+}
+
+fn push_span(spans: &mut Row<Span>, declaration: &Declaration) -> Result<(), AllocError>
+    ensures { OnOk result (spans.new ≡ spans.old ++ type_names (declared_types (declaration_view declaration.now ∷ []))) }
+{
+    match declaration {
+        Declaration::Struct(tree) => {
+            spans.push(tree.name.span)?;
+            Ok(())
+        }
+        Declaration::Enum(tree) => {
+            spans.push(tree.name.span)?;
+            Ok(())
+        }
+        Declaration::Function(_) => Ok(()),
+    }
+}
+
+/// The names of the declared types in order.
+pub fn type_spans(alloc: Global, declarations: &[Declaration]) -> Result<Row<Span>, AllocError>
+    ensures names { IfOk result (λ spans. spans ≡ type_names (declared_types (map declaration_view declarations.now))) }
+    ensures each { IfOk result (λ spans. length spans ≡ length (declared_types (map declaration_view declarations.now))) }
+{
+    let mut spans = Row::new(alloc);
+    for declaration in declarations {
+        push_span(&mut spans, declaration)?;
+    }
+    Ok(spans)
+}
+
+/// M4: the first type past the limit, with the number of all.
+pub fn over_types(spans: &[Span]) -> Option<Passed>
+    ensures first { option_map counted_by result ≡ too_many MOST_TYPES spans.now }
+    ensures few { IfNone result (length spans.now ≤ MOST_TYPES) }
+{
+    match spans.get(MOST_TYPES) {
+        Some(at) => Some(Passed {
+            count: spans.len() as u64,
+            at: *at,
+        }),
+        None => None,
+    }
+}
+
+fn part_count(info: &TypeInfo) -> usize
+    ensures { result ≡ part_count info.now }
+{
+    if info.is_enum {
+        info.cases.len()
+    } else {
+        info.fields.len()
+    }
+}
+
+/// M5: the first type with too many stored properties or cases.
+pub fn over_parts(types: &[TypeInfo], spans: &[Span]) -> Option<Passed>
+    ensures { option_map counted_by result ≡ first_over MOST_FIELDS (counts_of types.now spans.now) }
+{
+    let mut types = types;
+    let mut spans = spans;
+    'left: while let [info, types_after @ ..] = types {
+        let [at, spans_after @ ..] = spans else {
+            return None;
+        };
+        let count = part_count(info);
+        if count > MOST_FIELDS {
+            return Some(Passed {
+                count: count as u64,
+                at: *at,
+            });
+        }
+        types = types_after;
+        spans = spans_after;
+    }
+    None
+}
+
+/// M8: a type that is over the limit, at its name.
+pub fn over_slots(spans: &[Span], over: Over) -> Option<Passed>
+    ensures { option_map counted_by result ≡ at_span over.count (slice_get spans.now over.number) }
+{
+    match spans.get(over.number as usize) {
+        Some(at) => Some(Passed {
+            count: u64::from(over.count),
+            at: *at,
+        }),
+        None => None,
+    }
+}
