@@ -6,6 +6,7 @@ use anyhow::{Context, bail};
 use own_decl::parse;
 use own_lex::lex;
 use own_tree::Token;
+use own_tree::limits::MOST_TOKENS;
 use std::alloc::{AllocError, Global};
 use std::env;
 
@@ -73,5 +74,9 @@ fn declarations_of(alloc: Global, text: &[u8], turns: u32) -> anyhow::Result<usi
 
 /// Reads the tree once.
 fn tree_size(alloc: Global, tokens: &[Token]) -> anyhow::Result<usize> {
-    Ok(parse(alloc, tokens).context("the tokens")?.declarations.len())
+    if tokens.len() > MOST_TOKENS {
+        bail!("too many tokens");
+    }
+    let tree = parse(alloc, tokens).context("the tokens")?;
+    Ok(tree.declarations.len())
 }
