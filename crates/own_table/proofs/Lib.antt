@@ -33,3 +33,6 @@ pub mod Repeats
 pub mod Known
 pub mod Walked
 pub mod Surveyed
+pub mod Judged
+pub mod PartsIn
+pub mod Built

@@ -21,9 +21,9 @@ use Rattle.own_table.specs.Judgements.{nothing, note, notes, declared_as_written
 use Rattle.own_table.specs.Names.{flag_of, Knows, written_by, written_in}
 use Rattle.own_table.specs.Ops.{opening}
 use Rattle.own_table.specs.Parts.{Part, a_body, a_case, a_print, a_content, a_lifetime, a_method, a_top, a_main, no_main, a_scope, a_type, a_parameter, arg_count, print_call, written_part, pat_names, local_names, closure_names, pats_parts, exp_parts, given_parts, args_parts, closure_parts, stm_parts, stms_parts, when_parts, clauses_parts, block_parts, result_parts, parts_of_result, inner_parts, parameter_type_parts, parameters_parts, parameter_names, taking_parts, function_parts, payload_parts, case_parts, member_parts, main_parts, declared_parts, last_parts, file_parts, declared_name, has_main, member_names, struct_home, enum_home, word_of, MAIN}
-use Rattle.own_table.specs.TextWalks.{home_after, parameter_walk, inner_walk, result_walk, given_result_walk, parameter_type_walk, parameters_walk, taking_walk, function_walk, content_walk, payloads_walk, cases_walk, member_walk, members_walk, top_walk, main_walk, declaration_walk, declarations_walk, file_walk}
+use Rattle.own_table.specs.TextWalks.{home_after, parameter_walk, inner_walk, given_result_walk, parameter_type_walk, parameters_walk, taking_walk, function_walk, content_walk, payloads_walk, cases_walk, members_walk, main_walk, declarations_walk, file_walk}
 use Rattle.own_table.specs.Types.{Declared, declared_types}
-use Rattle.own_table.specs.Walks.{scope_walk, pats_walk, closure_head_walk, exp_walk, given_walk, args_walk, closure_walk, stm_walk, stms_walk, when_walk, clauses_walk, block_walk}
+use Rattle.own_table.specs.Walks.{scope_walk, pats_walk, exp_walk, given_walk, args_walk, closure_walk, stm_walk, stms_walk, when_walk, clauses_walk, block_walk}
 
 module _ (w : List ℕ → Written) where
   -- a walk that notes these parts

@@ -1,8 +1,7 @@
 -- The judgements of the type table, T01 to T08: which one is false of a part of a text, and what a walk over the parts
 -- notes of them.
-use Rattle.std.specs.Prelude.{◌≡◌, ℕ, suc, ◌+◌, ◌-◌, ◌^◌, min, Bool, true, false, not, ◌&&◌, if◌then◌else◌, List, [], ◌∷◌, ◌++◌, length, Contains, nat_lt, nat_eq, Option, Some, None, is_some, codes}
+use Rattle.std.specs.Prelude.{◌≡◌, ℕ, ◌+◌, ◌-◌, ◌^◌, min, Bool, true, false, not, ◌&&◌, if◌then◌else◌, List, [], ◌∷◌, ◌++◌, Contains, nat_lt, nat_eq, Option, Some, None, is_some, codes}
 use Rattle.std.specs.List.{list_any}
-use Rattle.std.specs.Option.{option_map}
 use Rattle.std.specs.Str.{bytes_eq}
 use Rattle.own_tree.specs.declared.limits.TheConstants.{MOST_BODIES, MOST_PARAMETERS}
 use Rattle.own_tree.specs.declared.span.Span.{Span}
@@ -12,7 +11,6 @@ use Rattle.own_tree.specs.declared.tree.Name.{Name}
 use Rattle.own_tree.specs.declared.tree.PassingMode.{PassingMode}
 use Rattle.own_tree.specs.declared.tree.PassingMode.TheVariants as passing_mode
 use Rattle.own_tree.specs.Source.{File}
-use Rattle.own_table.specs.declared.survey.Counted.{Counted}
 use Rattle.own_table.specs.declared.survey.Fault.{Fault}
 use Rattle.own_table.specs.declared.survey.Judgement.{Judgement}
 use Rattle.own_table.specs.declared.survey.Judgement.TheVariants as judgement

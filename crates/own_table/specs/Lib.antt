@@ -25,5 +25,6 @@ pub mod Judgements
 pub mod Names
 pub mod Walks
 pub mod TextWalks
+pub mod Building
 pub mod BodyLimits
 pub mod Laws

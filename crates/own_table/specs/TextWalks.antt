@@ -1,5 +1,5 @@
 -- What a walk over the declarations of a text notes, step by step.
-use Rattle.std.specs.Prelude.{ℕ, Bool, true, false, not, ◌&&◌, if◌then◌else◌, List, [], ◌∷◌, ◌++◌, length, map, Option, Some, None}
+use Rattle.std.specs.Prelude.{ℕ, Bool, false, not, ◌&&◌, if◌then◌else◌, List, [], ◌∷◌, length, map, Option, Some, None}
 use Rattle.std.specs.Str.{bytes_eq}
 use Rattle.own_tree.specs.declared.span.Span.{Span}
 use Rattle.own_tree.specs.declared.tree.CaseItem.{CaseItem}

@@ -3,7 +3,6 @@ use Rattle.std.specs.Prelude.{ℕ, if◌then◌else◌, List, [], ◌∷◌, len
 use Rattle.own_tree.specs.declared.span.Span.{Span}
 use Rattle.own_table.specs.declared.extent.Over.{Over}
 use Rattle.own_table.specs.declared.info.TypeInfo.{TypeInfo}
-use Rattle.own_table.specs.declared.limit.Passed.{Passed}
 use Rattle.own_table.specs.declared.survey.Counted.{Counted}
 use Rattle.own_table.specs.Limits.{counted, type_names}
 use Rattle.own_table.specs.Types.{Declared}
@@ -25,7 +24,3 @@ abbrev pub counts_of : List TypeInfo → List Span → List Counted
 counts_of [] spans = []
 counts_of (t ∷ ts) [] = []
 counts_of (t ∷ ts) (s ∷ ss) = counted (part_count t) s ∷ counts_of ts ss
-
--- what the program says of a limit that is passed
-abbrev pub counted_by : Passed → Counted
-counted_by p = counted p.count p.at

@@ -1,9 +1,9 @@
 -- What a walk over bodies notes, step by step.
-use Rattle.std.specs.Prelude.{ℕ, suc, List, [], ◌∷◌, length, Option}
+use Rattle.std.specs.Prelude.{ℕ, suc, List, length}
 use Rattle.own_tree.specs.declared.tree.Expr.TheFolds.{fold-Head}
 use Rattle.own_tree.specs.declared.tree.Head.{Head}
 use Rattle.own_tree.specs.declared.tree.Name.{Name}
-use Rattle.own_tree.specs.Source.{Pat, Pats, no_pats, pat, Exp, number, text, truth, path, implicit_member, parenthesized, consumed, prefix, binary, choice, member, call, call_closing, call_closure, Given, value, address, closing, Args, no_args, arg, Clo, closure, Stm, let_in, declare, assign, ignore, discard_self, if_then, if_else, else_if, loop_while, loop_repeat, loop_for, switch, leave, go_on, return_none, return_value, evaluate, Stms, no_stms, stm, When, case_of, case_where, default, Clauses, no_clauses, clause, Blk, block}
+use Rattle.own_tree.specs.Source.{Pats, no_pats, pat, Exp, number, text, truth, path, implicit_member, parenthesized, consumed, prefix, binary, choice, member, call, call_closing, call_closure, Given, value, address, closing, Args, no_args, arg, Clo, closure, Stm, let_in, declare, assign, ignore, discard_self, if_then, if_else, else_if, loop_while, loop_repeat, loop_for, switch, leave, go_on, return_none, return_value, evaluate, Stms, no_stms, stm, When, case_of, case_where, default, Clauses, no_clauses, clause, Blk, block}
 use Rattle.own_tree.specs.View.{Arg, Cla, expr_step, head_step, passed_step, stmt_step, argument_step, block_step, clause_step, closure_step}
 use Rattle.own_table.specs.declared.survey.Judgement.TheVariants as judgement
 use Rattle.own_table.specs.declared.survey.Survey.{Survey}

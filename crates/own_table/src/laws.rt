@@ -1,5 +1,6 @@
 //! Laws of the definitions. Each function does nothing; its contract is the law.
 
+ghost use Rattle.own_table.specs.Building.{TablesAreExact};
 ghost use Rattle.own_table.specs.Laws.{FindingsAreOneList, FindingsAreOrdered, FindingsHaveOneCause, FixedFindingsAreOneList, LeavesAreApart, LeavesHaveOneFact, LimitsAreExceeded, OpenedLeavesAreApart, PartsAreNoLarger, PartsOfLeavesHaveNone, PathFindingsAreOneList, PlacesAreOrdered, SettledLeavesAreNotAmbiguous, ShapesUnfold, SoundBreaksNothing, TracesExist, TracesGoOn, TracesSplit, TracesStay};
 ghost use Rattle.own_table.specs.Table.{TablesAreWhole};
 
@@ -7,6 +8,12 @@ ghost use Rattle.own_table.specs.Table.{TablesAreWhole};
 /// the table.
 pub fn tables_are_whole()
     ensures { TablesAreWhole }
+{}
+
+/// A text that has a table of types is refused for want of memory alone: a limit or a judgement that is
+/// named is passed or false.
+pub fn tables_are_exact()
+    ensures { TablesAreExact }
 {}
 
 /// Where no type contains itself, a declared type has the shape of its declaration.

@@ -2,6 +2,7 @@
 //! may break. The definitions stand in `specs/`; the functions here name what is proved of them.
 #![tactic(auto)]
 
+pub mod build;
 pub mod error;
 pub mod extent;
 mod fitting;
@@ -26,7 +27,7 @@ pub use laws::{
     fixed_findings_are_one_list, leaves_are_apart, leaves_have_one_fact, limits_are_exceeded,
     opened_leaves_are_apart, parts_are_no_larger, parts_of_leaves_have_none,
     path_findings_are_one_list, places_are_ordered, settled_leaves_are_not_ambiguous,
-    shapes_unfold, sound_breaks_nothing, tables_are_whole, traces_exist, traces_go_on,
-    traces_split, traces_stay,
+    shapes_unfold, sound_breaks_nothing, tables_are_exact, tables_are_whole, traces_exist,
+    traces_go_on, traces_split, traces_stay,
 };
 pub use table::TypeTable;

@@ -1,26 +1,19 @@
 //! The limits of the types of a text, M4, M5 and M8, at the names of the types.
 
-ghost use Rattle.std.specs.Prelude.{◌≡◌, ◌≤◌, ◌++◌, ◌∷◌, [], length, map, slice_get, IfNone, IfOk, OnOk};
-ghost use Rattle.std.specs.Option.{option_map};
+ghost use Rattle.std.specs.Prelude.{◌≡◌, ◌≤◌, ◌<◌, ◌++◌, ◌∷◌, [], length, map, slice_get, Some, IfNone, IfOk, OnOk};
 ghost use Rattle.own_tree.specs.declared.limits.TheConstants.{MOST_FIELDS, MOST_TYPES};
 ghost use Rattle.own_tree.specs.View.{declaration_view};
 ghost use Rattle.own_table.specs.Limits.{first_over, too_many, type_names};
-ghost use Rattle.own_table.specs.TypeLimits.{at_span, counted_by, counts_of, part_count};
+ghost use Rattle.own_table.specs.TypeLimits.{counts_of, part_count};
 ghost use Rattle.own_table.specs.Types.{declared_types};
 
 use crate::extent::Over;
 use crate::info::TypeInfo;
+use crate::survey::Counted;
 use own_tree::limits::{MOST_FIELDS, MOST_TYPES};
 use own_tree::tree::Declaration;
 use own_tree::{Row, Span};
 use std::alloc::{AllocError, Global};
-
-/// What passes a limit: the count, and the place that is named.
-#[derive(Clone, Copy, Debug, PartialEq, Eq)]
-pub struct Passed {
-    pub count: u64,
-    pub at: Span,
-}
 
 fn push_span(spans: &mut Row<Span>, declaration: &Declaration) -> Result<(), AllocError>
     ensures { OnOk result (spans.new ≡ spans.old ++ type_names (declared_types (declaration_view declaration.now ∷ []))) }
@@ -51,12 +44,12 @@ pub fn type_spans(alloc: Global, declarations: &[Declaration]) -> Result<Row<Spa
 }
 
 /// M4: the first type past the limit, with the number of all.
-pub fn over_types(spans: &[Span]) -> Option<Passed>
-    ensures first { option_map counted_by result ≡ too_many MOST_TYPES spans.now }
+pub fn over_types(spans: &[Span]) -> Option<Counted>
+    ensures first { result ≡ too_many MOST_TYPES spans.now }
     ensures few { IfNone result (length spans.now ≤ MOST_TYPES) }
 {
     match spans.get(MOST_TYPES) {
-        Some(at) => Some(Passed {
+        Some(at) => Some(Counted {
             count: spans.len() as u64,
             at: *at,
         }),
@@ -75,8 +68,8 @@ fn part_count(info: &TypeInfo) -> usize
 }
 
 /// M5: the first type with too many stored properties or cases.
-pub fn over_parts(types: &[TypeInfo], spans: &[Span]) -> Option<Passed>
-    ensures { option_map counted_by result ≡ first_over MOST_FIELDS (counts_of types.now spans.now) }
+pub fn over_parts(types: &[TypeInfo], spans: &[Span]) -> Option<Counted>
+    ensures { result ≡ first_over MOST_FIELDS (counts_of types.now spans.now) }
 {
     let mut types = types;
     let mut spans = spans;
@@ -86,7 +79,7 @@ pub fn over_parts(types: &[TypeInfo], spans: &[Span]) -> Option<Passed>
         };
         let count = part_count(info);
         if count > MOST_FIELDS {
-            return Some(Passed {
+            return Some(Counted {
                 count: count as u64,
                 at: *at,
             });
@@ -97,15 +90,14 @@ pub fn over_parts(types: &[TypeInfo], spans: &[Span]) -> Option<Passed>
     None
 }
 
-/// M8: a type that is over the limit, at its name.
-pub fn over_slots(spans: &[Span], over: Over) -> Option<Passed>
-    ensures { option_map counted_by result ≡ at_span over.count (slice_get spans.now over.number) }
+/// M8: what a type that is over the limit has, at its name.
+pub fn over_slots(spans: &[Span], over: Over) -> Counted
+    requires { over.number < length spans.now }
+    ensures count { result.count ≡ over.count }
+    ensures at { slice_get spans.now over.number ≡ Some result.at }
 {
-    match spans.get(over.number as usize) {
-        Some(at) => Some(Passed {
-            count: u64::from(over.count),
-            at: *at,
-        }),
-        None => None,
+    Counted {
+        count: u64::from(over.count),
+        at: spans[over.number as usize],
     }
 }

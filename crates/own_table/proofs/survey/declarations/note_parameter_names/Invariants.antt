@@ -1,4 +1,4 @@
-use Rattle.std.proofs.Common.{◌≡◌, map, take, drop}
+use Rattle.std.proofs.Common.{◌≡◌, map, take}
 use Rattle.own_table.specs.Parts.{parameter_names}
 use Rattle.own_table.proofs.survey.declarations.note_parameter_names.Given as goal
 

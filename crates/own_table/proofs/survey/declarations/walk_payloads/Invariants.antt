@@ -1,4 +1,4 @@
-use Rattle.std.proofs.Common.{◌≡◌, map, take, drop}
+use Rattle.std.proofs.Common.{◌≡◌, drop}
 use Rattle.own_table.specs.Names.{written_in}
 use Rattle.own_table.specs.TextWalks.{payloads_walk}
 use Rattle.own_table.proofs.survey.declarations.walk_payloads.Given as goal

@@ -1,4 +1,4 @@
-use Rattle.std.proofs.Common.{◌≡◌, map, take, drop}
+use Rattle.std.proofs.Common.{◌≡◌, map, drop}
 use Rattle.own_table.specs.Names.{written_in}
 use Rattle.own_tree.specs.View.{struct_member_view}
 use Rattle.own_table.specs.Parts.{struct_home}

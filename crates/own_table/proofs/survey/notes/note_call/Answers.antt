@@ -1,5 +1,3 @@
-use Rattle.std.proofs.Common.{map}
-use Rattle.own_tree.specs.View.{argument_view}
 use Rattle.own_table.proofs.Walked.{arg_count_of}
 use Rattle.own_table.proofs.survey.notes.note_call.Goals as goal
 

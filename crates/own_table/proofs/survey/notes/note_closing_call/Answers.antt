@@ -1,5 +1,4 @@
-use Rattle.std.proofs.Common.{map, add-one}
-use Rattle.own_tree.specs.View.{argument_view}
+use Rattle.std.proofs.Common.{add-one}
 use Rattle.own_table.proofs.Walked.{arg_count_of}
 use Rattle.own_table.proofs.survey.notes.note_closing_call.Goals as goal
 

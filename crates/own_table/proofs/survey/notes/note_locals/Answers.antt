@@ -1,6 +1,4 @@
-use Rattle.std.proofs.Common.{add-one, refl, ap, sym, ◌∙◌}
-use Rattle.own_table.specs.Parts.{local_name}
-use Rattle.own_tree.specs.View.{stmt_view}
+use Rattle.std.proofs.Common.{add-one, refl, ◌∙◌}
 use Rattle.own_table.proofs.Walked.{next_local}
 use Rattle.own_table.proofs.survey.notes.note_locals.Goals as goal
 

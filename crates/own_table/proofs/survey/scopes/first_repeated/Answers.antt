@@ -1,4 +1,4 @@
-use Rattle.std.proofs.Common.{add-one, ◌∙◌, sym, ap, arith}
+use Rattle.std.proofs.Common.{add-one, sym, arith}
 use Rattle.own_table.proofs.Repeats.{again, onward, not_not}
 use Rattle.own_table.proofs.survey.scopes.first_repeated.Goals as goal
 

@@ -1,4 +1,4 @@
-use Rattle.std.proofs.Common.{◌≡◌, ◌++◌, map, take, drop}
+use Rattle.std.proofs.Common.{◌≡◌, map, drop}
 use Rattle.own_tree.specs.View.{declaration_view}
 use Rattle.own_table.specs.Parts.{has_main}
 use Rattle.own_table.proofs.survey.text.declares_main.Given as goal

@@ -1,4 +1,4 @@
-use Rattle.std.proofs.Common.{◌≡◌, ◌++◌, map, take, drop}
+use Rattle.std.proofs.Common.{◌≡◌, map, take}
 use Rattle.own_tree.specs.View.{enum_member_view}
 use Rattle.own_table.specs.Parts.{member_names}
 use Rattle.own_table.proofs.survey.text.note_enum_names.Given as goal

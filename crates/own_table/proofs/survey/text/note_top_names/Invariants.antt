@@ -1,4 +1,4 @@
-use Rattle.std.proofs.Common.{◌≡◌, ◌++◌, map, take, drop}
+use Rattle.std.proofs.Common.{◌≡◌, map, take}
 use Rattle.own_tree.specs.View.{declaration_view}
 use Rattle.own_table.specs.Parts.{declared_name}
 use Rattle.own_table.proofs.survey.text.note_top_names.Given as goal

@@ -1,4 +1,4 @@
-use Rattle.std.proofs.Common.{◌≡◌, ◌++◌, map, take, drop}
+use Rattle.std.proofs.Common.{◌≡◌, ◌++◌, map, take}
 use Rattle.own_table.specs.Parts.{item_names}
 use Rattle.own_table.proofs.survey.text.push_items.Given as goal
 

@@ -1,4 +1,4 @@
-use Rattle.std.proofs.Common.{add-one, ◌∙◌, sym, ap, take, map, arith}
+use Rattle.std.proofs.Common.{add-one, ◌∙◌, sym, take, map}
 use Rattle.own_tree.specs.View.{declaration_view}
 use Rattle.own_table.proofs.Known.{had, joined, skipped, next_declared, nothing_copied, one_copied, new_entry}
 use Rattle.own_table.proofs.survey.names.TypeNames.new.Goals.{in-Some+then-is_none+in_ok-insert, in-Some+else-is_none, in_default}
