@@ -1,13 +1,12 @@
 -- The numbers of the declared types by name.
 use Rattle.std.proofs.Common.{◌≡◌, ℕ, suc, ◌+◌, ◌<◌, ◌≤◌, Bool, true, false, List, [], ◌∷◌, ◌++◌, length, map, take, drop, get_or, Option, Some, None, refl, sym, ap, ◌∙◌, arith, length-append}
-use Rattle.std.specs.Prelude.{if◌then◌else◌, cond, codes, is_some}
-use Rattle.std.specs.BTreeMap.{UpdatesBy}
-use Rattle.std.specs.Cmp.Lexicographic.{slice_cmp}
-use Rattle.std.specs.Ordering.{nat_cmp}
+use Rattle.std.specs.Prelude.{if◌then◌else◌, codes, is_some}
+use Rattle.std.specs.Borrow.{Bor}
+use Rattle.std.specs.Map.{lookup}
 use Rattle.std.specs.Str.{bytes_eq}
 use Rattle.std.proofs.lemmas.List.{take_more, take-append-drop, map-append, append-nil}
-use Rattle.std.proofs.lemmas.Map.Text.{btree_map_updates_str}
 use Rattle.std.proofs.lemmas.Slice.Eq.{bytes_eq-Decides}
+use Rattle.indexmap.specs.IndexMap.{insert_entry}
 use Rattle.own_tree.specs.declared.limits.TheConstants.{MOST_TYPES}
 use Rattle.own_tree.specs.declared.place.Ty.TheVariants as type
 use Rattle.own_tree.specs.declared.tree.Declaration.{Declaration}
@@ -30,22 +29,40 @@ pub none_there : (o : Option ℕ) → is_some o ≡ false → o ≡ None
 none_there None e = refl
 none_there (Some k) e = absurd cc
 
+-- ---- names in a map, in order
+
+unfoldable pub or_else : {A : Type 0} → Option A → Option A → Option A
+or_else None b = b
+or_else (Some a) b = Some a
+
+pub chosen : {A : Type 0} (b : Bool) (x : A) (o p : Option A) → (if b then Some x else or_else o p) ≡ or_else (if b then Some x else o) p
+unfolding or_else
+chosen true x o p = refl
+chosen false x o p = refl
+
+pub lookup-append : {K X : Type 0} (test : K → Bool) (es fs : List (K × X)) → lookup test (es ++ fs) ≡ or_else (lookup test es) (lookup test fs)
+unfolding or_else
+lookup-append test [] fs = refl
+lookup-append test (e ∷ es) fs = rw (lookup-append test es fs) (chosen (test e.0) e.1 (lookup test es) (lookup test fs))
+
+-- a new key goes last
+entry_by : {K V : Type 0} (eq : K → K → Bool) (e : K × V) (es : List (K × V)) (k : K) (v : V) (b : Bool) → eq k e.0 ≡ b → lookup (eq k) (e ∷ es) ≡ None
+    → (lookup (eq k) es ≡ None → insert_entry eq es k v ≡ es ++ (k, v) ∷ []) → insert_entry eq (e ∷ es) k v ≡ (e ∷ es) ++ (k, v) ∷ []
+entry_by eq e es k v true is absent rest = let f : Some e.1 ≡ None = rw is at absent in absurd cc
+entry_by eq e es k v false is absent rest = rw is (ap (λ r. e ∷ r) (rest (rw is at absent)))
+
+pub new_entry : {K V : Type 0} (eq : K → K → Bool) (es : List (K × V)) (k : K) (v : V) → lookup (eq k) es ≡ None → insert_entry eq es k v ≡ es ++ (k, v) ∷ []
+new_entry eq [] k v absent = refl
+new_entry eq (e ∷ es) k v absent = entry_by eq e es k v (eq k e.0) refl absent (new_entry eq es k v)
+
 -- a name that was not there is added
-pub name_added : (old new : Numbers) (name : List ℕ) (number : ℕ) → number_of old name ≡ None
-    → UpdatesBy (λ x y. slice_cmp nat_cmp x.now y.now) (λ k. slice_cmp nat_cmp name k.now) old new (Some number) → AddsName old new name number
-name_added old new name number absent updates wanted =
-    btree_map_updates_str name old new (Some number) updates wanted ∙ by_test (bytes_eq name wanted) refl
+pub name_added : (old : Numbers) (name : Bor (List ℕ)) (number : ℕ) → AddsName old (old ++ (name, number) ∷ []) name.now number
+unfolding or_else
+name_added old name number wanted = lookup-append (λ k. bytes_eq wanted k.now) old ((name, number) ∷ []) ∙ by (number_of old wanted)
   where
-    by_test : (b : Bool) → bytes_eq name wanted ≡ b → cond (bytes_eq name wanted) (Some number) (number_of old wanted) ≡ or_number (number_of old wanted) name number wanted
-    by_test true e =
-        let same : name ≡ wanted = (bytes_eq-Decides name wanted).0 e in
-        ap (λ b. cond b (Some number) (number_of old wanted)) e
-        ∙ sym (ap (λ o. or_number o name number wanted) (ap (number_of old) (sym same) ∙ absent) ∙ ap (λ b. if b then Some number else None) e)
-    by_test false e = ap (λ b. cond b (Some number) (number_of old wanted)) e ∙ by_old (number_of old wanted) e
-      where
-        by_old : (o : Option ℕ) → bytes_eq name wanted ≡ false → o ≡ or_number o name number wanted
-        by_old None f = sym (ap (λ b. if b then Some number else None) f)
-        by_old (Some k) f = refl
+    by : (o : Option ℕ) → or_else o (if bytes_eq wanted name.now then Some number else None) ≡ or_number o name.now number wanted
+    by None = ap (λ b. if b then Some number else None) (turned wanted name.now)
+    by (Some k) = refl
 
 -- ---- one more declaration
 

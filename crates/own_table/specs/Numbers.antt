@@ -1,20 +1,19 @@
 -- The declared types by name.
 use Rattle.std.specs.Prelude.{◌≡◌, ℕ, ◌+◌, if◌then◌else◌, List, Option, Some, None, codes}
 use Rattle.std.specs.Borrow.{Bor}
-use Rattle.std.specs.BTreeMap.{BTreeMap, get_by}
-use Rattle.std.specs.Cmp.Lexicographic.{slice_cmp}
-use Rattle.std.specs.Ordering.{nat_cmp}
+use Rattle.std.specs.Map.{lookup}
 use Rattle.std.specs.Str.{bytes_eq}
 use Rattle.own_tree.specs.declared.place.Ty.{Ty}
 use Rattle.own_tree.specs.declared.place.Ty.TheVariants as type
 use Rattle.own_tree.specs.Source.{Decl, struct_of, enum_of, function}
 use Rattle.own_table.specs.Types.{declared_types, type_number, named}
 
+-- names with their numbers, in order of declaration
 abbrev pub Numbers : Type 0
-Numbers = BTreeMap (Bor (List ℕ)) ℕ
+Numbers = List (Bor (List ℕ) × ℕ)
 
 abbrev pub number_of : Numbers → List ℕ → Option ℕ
-number_of numbers name = get_by (λ k. slice_cmp nat_cmp name k.now) numbers
+number_of numbers name = lookup (λ k. bytes_eq name k.now) numbers
 
 -- of equal names the first counts
 abbrev pub IsNumbering : List Decl → Numbers → Type 0

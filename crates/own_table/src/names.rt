@@ -7,10 +7,10 @@ ghost use Rattle.own_tree.specs.View.{declaration_view};
 ghost use Rattle.own_table.specs.Numbers.{AddsName, AddsType, IsNumbering, counted_with, type_name, written_by};
 ghost use Rattle.own_table.specs.Types.{declared_types};
 
+use indexmap::IndexMap;
 use own_tree::Ty;
 use own_tree::tree::Declaration;
 use std::alloc::{AllocError, Global};
-use std::collections::BTreeMap;
 
 /// The name of a struct or an enum.
 fn type_name(declaration: &Declaration) -> Option<&[u8]>
@@ -25,13 +25,13 @@ fn type_name(declaration: &Declaration) -> Option<&[u8]>
 
 /// Adds a name, unless an equal one is there.
 fn add_name<'a>(
-    numbers: &mut BTreeMap<&'a [u8], u32>,
+    numbers: &mut IndexMap<&'a [u8], u32>,
     name: &'a [u8],
     number: u32,
 ) -> Result<(), AllocError>
-    ensures { OnOk result (AddsName numbers.old numbers.new name.now number) }
+    ensures { OnOk result (AddsName numbers.old.entries numbers.new.entries name.now number) }
 {
-    if !numbers.contains_key(&name) {
+    if !numbers.contains_key(name) {
         numbers.insert(name, number)?;
     }
     Ok(())
@@ -39,12 +39,12 @@ fn add_name<'a>(
 
 /// Adds the name of a struct or an enum, which has this number; the number of the next one.
 fn add_type<'a>(
-    numbers: &mut BTreeMap<&'a [u8], u32>,
+    numbers: &mut IndexMap<&'a [u8], u32>,
     declaration: &'a Declaration,
     number: u32,
 ) -> Result<u32, AllocError>
     requires { number + 1 < 2 ^ 32 }
-    ensures adds { OnOk result (AddsType numbers.old numbers.new (declaration_view declaration.now) number) }
+    ensures adds { OnOk result (AddsType numbers.old.entries numbers.new.entries (declaration_view declaration.now) number) }
     ensures next { IfOk result (λ next. next ≡ counted_with (type_name (declaration_view declaration.now)) number) }
 {
     match type_name(declaration) {
@@ -60,11 +60,11 @@ fn add_type<'a>(
 pub fn type_numbers<'a>(
     alloc: Global,
     declarations: &'a [Declaration],
-) -> Result<BTreeMap<&'a [u8], u32>, AllocError>
+) -> Result<IndexMap<&'a [u8], u32>, AllocError>
     requires { length (declared_types (map declaration_view declarations.now)) ≤ MOST_TYPES }
-    ensures { IfOk result (IsNumbering (map declaration_view declarations.now)) }
+    ensures { IfOk result (λ numbers. IsNumbering (map declaration_view declarations.now) numbers.entries) }
 {
-    let mut numbers = BTreeMap::new(alloc);
+    let mut numbers = IndexMap::new(alloc);
     let mut count = 0u32;
     for declaration in declarations {
         count = add_type(&mut numbers, declaration, count)?;
@@ -73,8 +73,8 @@ pub fn type_numbers<'a>(
 }
 
 /// What a written name stands for: a name that names no type counts as `Unit`.
-pub fn written_type<'a>(numbers: &BTreeMap<&'a [u8], u32>, name: &'a [u8]) -> Ty
-    ensures { result ≡ written_by numbers.now name.now }
+pub fn written_type<'a>(numbers: &IndexMap<&'a [u8], u32>, name: &'a [u8]) -> Ty
+    ensures { result ≡ written_by numbers.now.entries name.now }
 {
     if name == b"Int".as_slice() {
         return Ty::Int;
@@ -82,7 +82,7 @@ pub fn written_type<'a>(numbers: &BTreeMap<&'a [u8], u32>, name: &'a [u8]) -> Ty
     if name == b"Bool".as_slice() {
         return Ty::Bool;
     }
-    match numbers.get(&name) {
+    match numbers.get(name) {
         Some(number) => Ty::Named(*number),
         None => Ty::Unit,
     }

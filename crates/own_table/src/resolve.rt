@@ -10,13 +10,13 @@ ghost use Rattle.own_table.specs.Types.{declared_as, declared_types, is_var, res
 
 use crate::info::{CaseInfo, FieldInfo, TypeInfo};
 use crate::names::{type_numbers, written_type};
+use indexmap::IndexMap;
 use own_tree::tree::{
     CaseItem, Declaration, EnumDeclaration, EnumMember, Field, Keyword, Name, StructDeclaration,
     StructMember,
 };
 use own_tree::{Bytes, Row, Ty};
 use std::alloc::{AllocError, Global};
-use std::collections::BTreeMap;
 
 fn is_var(keyword: Keyword) -> bool
     ensures { result ≡ is_var keyword }
@@ -30,9 +30,9 @@ fn is_var(keyword: Keyword) -> bool
 fn field_info<'a>(
     alloc: Global,
     field: &'a Field,
-    numbers: &BTreeMap<&'a [u8], u32>,
+    numbers: &IndexMap<&'a [u8], u32>,
 ) -> Result<FieldInfo, AllocError>
-    ensures { IfOk result (λ info. info ≡ resolved_field (written_by numbers.now) field.now) }
+    ensures { IfOk result (λ info. info ≡ resolved_field (written_by numbers.now.entries) field.now) }
 {
     Ok(FieldInfo {
         name: Bytes::from_slice(alloc, field.name.text.as_slice())?,
@@ -45,9 +45,9 @@ fn push_field<'a>(
     alloc: Global,
     fields: &mut Row<FieldInfo>,
     member: &'a StructMember,
-    numbers: &BTreeMap<&'a [u8], u32>,
+    numbers: &IndexMap<&'a [u8], u32>,
 ) -> Result<(), AllocError>
-    ensures { OnOk result (fields.new ≡ fields.old ++ member_fields (written_by numbers.now) (struct_member_view member.now ∷ [])) }
+    ensures { OnOk result (fields.new ≡ fields.old ++ member_fields (written_by numbers.now.entries) (struct_member_view member.now ∷ [])) }
 {
     match member {
         StructMember::Field(field) => {
@@ -63,9 +63,9 @@ fn push_field<'a>(
 fn struct_fields<'a>(
     alloc: Global,
     members: &'a [StructMember],
-    numbers: &BTreeMap<&'a [u8], u32>,
+    numbers: &IndexMap<&'a [u8], u32>,
 ) -> Result<Row<FieldInfo>, AllocError>
-    ensures { IfOk result (λ fields. fields ≡ member_fields (written_by numbers.now) (map struct_member_view members.now)) }
+    ensures { IfOk result (λ fields. fields ≡ member_fields (written_by numbers.now.entries) (map struct_member_view members.now)) }
 {
     let mut fields = Row::new(alloc);
     for member in members {
@@ -97,9 +97,9 @@ fn struct_has_deinit(members: &[StructMember]) -> bool
 fn written_types<'a>(
     alloc: Global,
     names: &'a [Name],
-    numbers: &BTreeMap<&'a [u8], u32>,
+    numbers: &IndexMap<&'a [u8], u32>,
 ) -> Result<Row<Ty>, AllocError>
-    ensures { IfOk result (λ tys. tys ≡ map (λ name. written_by numbers.now name.text) names.now) }
+    ensures { IfOk result (λ tys. tys ≡ map (λ name. written_by numbers.now.entries name.text) names.now) }
 {
     let mut tys = Row::new(alloc);
     for name in names {
@@ -111,9 +111,9 @@ fn written_types<'a>(
 fn case_info<'a>(
     alloc: Global,
     item: &'a CaseItem,
-    numbers: &BTreeMap<&'a [u8], u32>,
+    numbers: &IndexMap<&'a [u8], u32>,
 ) -> Result<CaseInfo, AllocError>
-    ensures { IfOk result (λ info. info ≡ resolved_case (written_by numbers.now) item.now) }
+    ensures { IfOk result (λ info. info ≡ resolved_case (written_by numbers.now.entries) item.now) }
 {
     Ok(CaseInfo {
         name: Bytes::from_slice(alloc, item.name.text.as_slice())?,
@@ -125,9 +125,9 @@ fn push_items<'a>(
     alloc: Global,
     cases: &mut Row<CaseInfo>,
     items: &'a [CaseItem],
-    numbers: &BTreeMap<&'a [u8], u32>,
+    numbers: &IndexMap<&'a [u8], u32>,
 ) -> Result<(), AllocError>
-    ensures { OnOk result (cases.new ≡ cases.old ++ map (resolved_case (written_by numbers.now)) items.now) }
+    ensures { OnOk result (cases.new ≡ cases.old ++ map (resolved_case (written_by numbers.now.entries)) items.now) }
 {
     for item in items {
         cases.push(case_info(alloc, item, numbers)?)?;
@@ -139,9 +139,9 @@ fn push_cases<'a>(
     alloc: Global,
     cases: &mut Row<CaseInfo>,
     member: &'a EnumMember,
-    numbers: &BTreeMap<&'a [u8], u32>,
+    numbers: &IndexMap<&'a [u8], u32>,
 ) -> Result<(), AllocError>
-    ensures { OnOk result (cases.new ≡ cases.old ++ member_cases (written_by numbers.now) (enum_member_view member.now ∷ [])) }
+    ensures { OnOk result (cases.new ≡ cases.old ++ member_cases (written_by numbers.now.entries) (enum_member_view member.now ∷ [])) }
 {
     match member {
         EnumMember::Cases(_, items) => push_items(alloc, cases, items.as_slice(), numbers),
@@ -153,9 +153,9 @@ fn push_cases<'a>(
 fn enum_cases<'a>(
     alloc: Global,
     members: &'a [EnumMember],
-    numbers: &BTreeMap<&'a [u8], u32>,
+    numbers: &IndexMap<&'a [u8], u32>,
 ) -> Result<Row<CaseInfo>, AllocError>
-    ensures { IfOk result (λ cases. cases ≡ member_cases (written_by numbers.now) (map enum_member_view members.now)) }
+    ensures { IfOk result (λ cases. cases ≡ member_cases (written_by numbers.now.entries) (map enum_member_view members.now)) }
 {
     let mut cases = Row::new(alloc);
     for member in members {
@@ -187,9 +187,9 @@ fn enum_has_deinit(members: &[EnumMember]) -> bool
 fn struct_info<'a>(
     alloc: Global,
     tree: &'a StructDeclaration,
-    numbers: &BTreeMap<&'a [u8], u32>,
+    numbers: &IndexMap<&'a [u8], u32>,
 ) -> Result<TypeInfo, AllocError>
-    ensures { IfOk result (λ info. info ≡ resolved_by (written_by numbers.now) (declared_as false tree.now.name tree.now.noncopyable (map struct_member_view tree.now.members))) }
+    ensures { IfOk result (λ info. info ≡ resolved_by (written_by numbers.now.entries) (declared_as false tree.now.name tree.now.noncopyable (map struct_member_view tree.now.members))) }
 {
     let members = tree.members.as_slice();
     Ok(TypeInfo {
@@ -205,9 +205,9 @@ fn struct_info<'a>(
 fn enum_info<'a>(
     alloc: Global,
     tree: &'a EnumDeclaration,
-    numbers: &BTreeMap<&'a [u8], u32>,
+    numbers: &IndexMap<&'a [u8], u32>,
 ) -> Result<TypeInfo, AllocError>
-    ensures { IfOk result (λ info. info ≡ resolved_by (written_by numbers.now) (declared_as true tree.now.name tree.now.noncopyable (map enum_member_view tree.now.members))) }
+    ensures { IfOk result (λ info. info ≡ resolved_by (written_by numbers.now.entries) (declared_as true tree.now.name tree.now.noncopyable (map enum_member_view tree.now.members))) }
 {
     let members = tree.members.as_slice();
     Ok(TypeInfo {
@@ -224,9 +224,9 @@ fn push_type<'a>(
     alloc: Global,
     infos: &mut Row<TypeInfo>,
     declaration: &'a Declaration,
-    numbers: &BTreeMap<&'a [u8], u32>,
+    numbers: &IndexMap<&'a [u8], u32>,
 ) -> Result<(), AllocError>
-    ensures { OnOk result (infos.new ≡ infos.old ++ declared_infos (written_by numbers.now) (declaration_view declaration.now ∷ [])) }
+    ensures { OnOk result (infos.new ≡ infos.old ++ declared_infos (written_by numbers.now.entries) (declaration_view declaration.now ∷ [])) }
 {
     match declaration {
         Declaration::Struct(tree) => {
@@ -244,9 +244,9 @@ fn push_type<'a>(
 fn declared_infos<'a>(
     alloc: Global,
     declarations: &'a [Declaration],
-    numbers: &BTreeMap<&'a [u8], u32>,
+    numbers: &IndexMap<&'a [u8], u32>,
 ) -> Result<Row<TypeInfo>, AllocError>
-    ensures { IfOk result (λ infos. infos ≡ declared_infos (written_by numbers.now) (map declaration_view declarations.now)) }
+    ensures { IfOk result (λ infos. infos ≡ declared_infos (written_by numbers.now.entries) (map declaration_view declarations.now)) }
 {
     let mut infos = Row::new(alloc);
     for declaration in declarations {

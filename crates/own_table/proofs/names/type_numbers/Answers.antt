@@ -7,7 +7,7 @@ loop-declaration-preserved c =
     let xs = c.args.declarations.now in let i = c.loop-declaration.declaration-index in let x = c.declaration-item.result in
     let lt = c.loop-declaration-test.true in let is = c.declaration-item.is in let before = c.loop-declaration.invariant in
     record {
-      numbering = numbering_next xs i x lt is c.loop-declaration.numbers c.add_type.new.numbers c.loop-declaration.count before.numbering before.counted c.in_ok-count.ensures.adds;
+      numbering = numbering_next xs i x lt is c.loop-declaration.numbers.entries c.add_type.new.numbers.entries c.loop-declaration.count before.numbering before.counted c.in_ok-count.ensures.adds;
       counted = counted_next xs i x lt is c.loop-declaration.count c.in_ok-count.count before.counted c.in_ok-count.ensures.next;
     }
 

@@ -6,6 +6,6 @@ use Rattle.own_table.proofs.names.type_numbers.Given as goal
 
 abbrev pub invariant-loop-declaration : goal.invariant-loop-declaration
 invariant-loop-declaration l = record {
-  numbering : IsNumbering (map declaration_view (take l.declaration-index l.declarations)) l.numbers;
+  numbering : IsNumbering (map declaration_view (take l.declaration-index l.declarations)) l.numbers.entries;
   counted : l.count ≡ length (declared_types (map declaration_view (take l.declaration-index l.declarations)));
 }

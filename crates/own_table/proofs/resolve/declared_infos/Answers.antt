@@ -7,7 +7,7 @@ use Rattle.own_table.proofs.resolve.declared_infos.Goals as goal
 
 pub loop-declaration-preserved : goal.loop-declaration-preserved
 loop-declaration-preserved c =
-    let by = written_by c.args.numbers.now in
+    let by = written_by c.args.numbers.now.entries in
     c.in_ok-push_type.ensures
     ∙ ap (λ before. before ++ declared_infos by (declaration_view c.declaration-item.result ∷ [])) c.loop-declaration.invariant
     ∙ sym (infos_more by c.args.declarations.now c.loop-declaration.declaration-index c.declaration-item.result c.loop-declaration-test.true c.declaration-item.is)

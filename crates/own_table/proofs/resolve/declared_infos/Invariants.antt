@@ -5,4 +5,4 @@ use Rattle.own_table.specs.Resolving.{declared_infos}
 use Rattle.own_table.proofs.resolve.declared_infos.Given as goal
 
 abbrev pub invariant-loop-declaration : goal.invariant-loop-declaration
-invariant-loop-declaration l = l.infos ≡ declared_infos (written_by l.numbers) (map declaration_view (take l.declaration-index l.declarations))
+invariant-loop-declaration l = l.infos ≡ declared_infos (written_by l.numbers.entries) (map declaration_view (take l.declaration-index l.declarations))

@@ -7,7 +7,7 @@ use Rattle.own_table.proofs.resolve.enum_cases.Goals as goal
 
 pub loop-member-preserved : goal.loop-member-preserved
 loop-member-preserved c =
-    let by = written_by c.args.numbers.now in
+    let by = written_by c.args.numbers.now.entries in
     c.in_ok-push_cases.ensures
     ∙ ap (λ before. before ++ member_cases by (enum_member_view c.member-item.result ∷ [])) c.loop-member.invariant
     ∙ sym (enum_cases_more by c.args.members.now c.loop-member.member-index c.member-item.result c.loop-member-test.true c.member-item.is)

@@ -5,4 +5,4 @@ use Rattle.own_table.specs.Resolving.{member_cases}
 use Rattle.own_table.proofs.resolve.enum_cases.Given as goal
 
 abbrev pub invariant-loop-member : goal.invariant-loop-member
-invariant-loop-member l = l.cases ≡ member_cases (written_by l.numbers) (map enum_member_view (take l.member-index l.members))
+invariant-loop-member l = l.cases ≡ member_cases (written_by l.numbers.entries) (map enum_member_view (take l.member-index l.members))

@@ -6,4 +6,4 @@ use Rattle.own_table.proofs.resolve.resolved_types.Goals as goal
 
 pub returns : goal.returns
 returns c =
-    subst (λ xs. IfOk c.declared_infos.result (λ infos. infos ≡ xs)) (by_numbers (map declaration_view c.args.declarations.now) c.in_ok-numbers.numbers c.in_ok-numbers.ensures) c.declared_infos.ensures
+    subst (λ xs. IfOk c.declared_infos.result (λ infos. infos ≡ xs)) (by_numbers (map declaration_view c.args.declarations.now) c.in_ok-numbers.numbers.entries c.in_ok-numbers.ensures) c.declared_infos.ensures

@@ -7,7 +7,7 @@ use Rattle.own_table.proofs.resolve.struct_fields.Goals as goal
 
 pub loop-member-preserved : goal.loop-member-preserved
 loop-member-preserved c =
-    let by = written_by c.args.numbers.now in
+    let by = written_by c.args.numbers.now.entries in
     c.in_ok-push_field.ensures
     ∙ ap (λ before. before ++ member_fields by (struct_member_view c.member-item.result ∷ [])) c.loop-member.invariant
     ∙ sym (struct_fields_more by c.args.members.now c.loop-member.member-index c.member-item.result c.loop-member-test.true c.member-item.is)

@@ -5,4 +5,4 @@ use Rattle.own_table.specs.Resolving.{member_fields}
 use Rattle.own_table.proofs.resolve.struct_fields.Given as goal
 
 abbrev pub invariant-loop-member : goal.invariant-loop-member
-invariant-loop-member l = l.fields ≡ member_fields (written_by l.numbers) (map struct_member_view (take l.member-index l.members))
+invariant-loop-member l = l.fields ≡ member_fields (written_by l.numbers.entries) (map struct_member_view (take l.member-index l.members))

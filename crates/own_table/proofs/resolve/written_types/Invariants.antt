@@ -3,4 +3,4 @@ use Rattle.own_table.specs.Numbers.{written_by}
 use Rattle.own_table.proofs.resolve.written_types.Given as goal
 
 abbrev pub invariant-loop-name : goal.invariant-loop-name
-invariant-loop-name l = l.tys ≡ map (λ name. written_by l.numbers name.text) (take l.name-index l.names)
+invariant-loop-name l = l.tys ≡ map (λ name. written_by l.numbers.entries name.text) (take l.name-index l.names)

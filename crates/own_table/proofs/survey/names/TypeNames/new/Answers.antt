@@ -1,6 +1,7 @@
 use Rattle.std.proofs.Common.{add-one, ◌∙◌, sym, take, map}
 use Rattle.own_tree.specs.View.{declaration_view}
-use Rattle.own_table.proofs.Known.{had, joined, skipped, next_declared, nothing_copied, one_copied, new_entry}
+use Rattle.own_table.proofs.Known.{had, joined, skipped, next_declared, nothing_copied, one_copied}
+use Rattle.own_table.proofs.Numbered.{new_entry}
 use Rattle.own_table.proofs.survey.names.TypeNames.new.Goals.{in-Some+then-is_none+in_ok-insert, in-Some+else-is_none, in_default}
 use Rattle.own_table.proofs.survey.names.TypeNames.new.Goals as goal
 
