@@ -1,0 +1,6 @@
+use Rattle.std.specs.Prelude.{All}
+use Rattle.own_table.specs.Table.{IsTypeIn}
+use Rattle.own_calls.proofs.tests.args_of.Given as goal
+
+abbrev pub invariant-loop-label : goal.invariant-loop-label
+invariant-loop-label g l = All (λ a. IsTypeIn l.table a.ty) l.args.items
