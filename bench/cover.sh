@@ -43,6 +43,10 @@ fi
 measure cases 256 20
 measure truths 256 200
 measure nested 100 1000
-measure clauses 20 4
-measure clauses 40 1
-measure clauses 60 1
+measure nested 1000 10
+measure clauses 20 100
+measure clauses 60 100
+measure clauses 100 20
+measure clauses 136 2
+measure clauses 200 2
+measure clauses 384 2

@@ -13,3 +13,4 @@ pub mod Taking
 pub mod Final
 pub mod Ordered
 pub mod Small
+pub mod Silent

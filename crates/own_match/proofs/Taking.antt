@@ -2,19 +2,19 @@
 use Rattle.std.proofs.Common.{◌≡◌, ℕ, ◌+◌, ◌≤◌, ℤ, Bool, true, false, List, [], ◌∷◌, ◌++◌, length, map, drop, slice_get, Option, Some, None, refl, sym, ap, ◌∙◌, subst, arith, add-one}
 use Rattle.own_tree.specs.declared.pattern.TPattern.{TPattern}
 use Rattle.own_tree.specs.declared.place.Ty.{Ty}
-use Rattle.own_tree.specs.TypedSource.{TPat, any, of_number, of_truth, TPats, pat}
+use Rattle.own_tree.specs.TypedSource.{TPat, of_number, TPats}
 use Rattle.own_tree.specs.TypedView.{pats_of, pattern_view}
 use Rattle.own_table.specs.declared.info.CaseInfo.{CaseInfo}
 use Rattle.own_table.specs.declared.table.TypeTable.{TypeTable}
 use Rattle.own_table.specs.Types.{Shape, Shapes, shapes_of, payloads_of, case_types}
 use Rattle.own_match.specs.declared.column.Column.{Column as Held}
 use Rattle.own_match.specs.declared.head.Head.TheVariants as head
-use Rattle.own_match.specs.Search.{all_inhabited, narrowed, is_mentioned, or_else, led, gathered, count, Later, gap_in_numbers, gap_in_truths, gap_in_cases, gap_in_payloads, gap_columns, payload_columns}
+use Rattle.own_match.specs.Search.{all_inhabited, narrowed, is_mentioned, or_else, led, gathered, count, Later, gap_in_numbers, gap_in_cases, gap_in_payloads, gap_columns, payload_columns}
 use Rattle.own_match.specs.First.{case_with, form_before, first_forms}
 use Rattle.own_match.specs.View.{said_all, columns_held, gap_in_case, AreTyped, AreTypes}
 use Rattle.own_match.specs.Weights.{weights, columns_weight}
-use Rattle.own_match.proofs.Enums.{drop_at, drop_past}
-use Rattle.own_match.proofs.Steps.{payload_gap, narrowed_same, case_before_others, pat_count, col_count, found_count, payload_count, payloads_weight}
+use Rattle.own_match.proofs.Enums.{drop_at}
+use Rattle.own_match.proofs.Steps.{payload_gap, case_before_others, pat_count, col_count, found_count, payload_count, payloads_weight}
 
 -- ---- cases
 
@@ -46,7 +46,7 @@ module _ (shape_of : Ty → Shape) (cs : List CaseInfo) (i : ℕ) (c : CaseInfo)
       (subst (λ k. is_mentioned (head.Case k) live cells ≡ false) same silent) full e)
       ∙ sym here_or_later
 
--- ---- numbers and truths
+-- ---- numbers
 
 module _ (ns : List ℤ) (i : ℕ) (n : ℤ) (cells : List TPat) (next : Later) (live : List Bool) (at : slice_get ns i ≡ Some n) where
   number_or_later : gap_in_numbers (drop i ns) cells next live ≡ or_else (led (of_number n) (next (narrowed (head.Number n) live cells))) (gap_in_numbers (drop (i + 1) ns) cells next live)
@@ -57,20 +57,6 @@ module _ (ns : List ℤ) (i : ℕ) (n : ℤ) (cells : List TPat) (next : Later) 
 
   pub no_number_here : led (of_number n) (next (narrowed (head.Number n) live cells)) ≡ None → gap_in_numbers (drop i ns) cells next live ≡ gap_in_numbers (drop (i + 1) ns) cells next live
   no_number_here none = number_or_later ∙ ap (λ r. or_else r (gap_in_numbers (drop (i + 1) ns) cells next live)) none
-
-  pub silent_number : (others : TPats) → is_mentioned (head.Number n) live cells ≡ false → Some others ≡ next (narrowed head.Other live cells) → Some (pat (of_number n) others) ≡ gap_in_numbers (drop i ns) cells next live
-  silent_number others silent e =
-      sym (number_here (pat (of_number n) others) (ap (λ x. led (of_number n) (next x)) (narrowed_same (head.Number n) live cells silent) ∙ ap (led (of_number n)) (sym e)))
-
-pub last_number : (ns : List ℤ) (i : ℕ) (cells : List TPat) (next : Later) (live : List Bool) (others : TPats) → length ns ≤ i → Some others ≡ next (narrowed head.Other live cells)
-    → Some (pat any others) ≡ gap_in_numbers (drop i ns) cells next live
-last_number ns i cells next live others l e = ap (led any) e ∙ ap (λ xs. gap_in_numbers xs cells next live) (sym (drop_past ns i l))
-
-pub silent_truth : (cells : List TPat) (next : Later) (live : List Bool) (others : TPats) → is_mentioned (head.Truth false) live cells ≡ false → Some others ≡ next (narrowed head.Other live cells)
-    → Some (pat (of_truth false) others) ≡ gap_in_truths cells next live
-silent_truth cells next live others silent e =
-    sym (ap (λ r. or_else r (led (of_truth true) (next (narrowed (head.Truth true) live cells))))
-    (ap (λ x. led (of_truth false) (next x)) (narrowed_same (head.Truth false) live cells silent) ∙ ap (led (of_truth false)) (sym e)))
 
 -- ---- the payloads of a case
 

@@ -1,6 +1,7 @@
 -- The search for the first form that is missing, one column of patterns after the other. A column has what each pattern
 -- says at one place of a value; a pattern is live where it matches all that was chosen at the columns before.
-use Rattle.std.specs.Prelude.{ℕ, zero, suc, ◌==◌, ℤ, Bool, true, false, not, ◌&&◌, ◌||◌, if◌then◌else◌, List, [], ◌∷◌, Option, Some, None}
+use Rattle.std.specs.List.{list_all}
+use Rattle.std.specs.Prelude.{slice_get, ℕ, zero, suc, ◌==◌, ℤ, Bool, true, false, not, ◌&&◌, ◌||◌, if◌then◌else◌, List, [], ◌∷◌, Option, Some, None}
 use Rattle.std.specs.Ordering.{int_cmp, int_eq}
 use Rattle.std.specs.BTreeSet.{insert_key}
 use Rattle.own_tree.specs.TypedSource.{TPat, any, bind, of_case, of_number, of_truth, TPats, no_pats, pat}
@@ -47,6 +48,23 @@ narrowed h live cells = []
 abbrev pub is_mentioned : Head → List Bool → List TPat → Bool
 is_mentioned h (l ∷ live) (p ∷ cells) = (l && (accepts h p && not (accepts head.Other p))) || is_mentioned h live cells
 is_mentioned h live cells = false
+
+-- pattern i says nothing at the place of a column
+abbrev pub is_silent : Option TPat → Bool
+is_silent None = false
+is_silent (Some p) = accepts head.Other p
+
+abbrev pub is_silent_at : ℕ → List TPat → Bool
+is_silent_at i cells = is_silent (slice_get cells i)
+
+-- nor at any of these columns
+abbrev pub says_nothing : ℕ → List (List TPat) → Bool
+says_nothing i columns = list_all (is_silent_at i) columns
+
+-- a live pattern, of those from number i on, says nothing at any of these columns
+abbrev pub one_is_silent : ℕ → List (List TPat) → List Bool → Bool
+one_is_silent i columns [] = false
+one_is_silent i columns (l ∷ live) = (l && says_nothing i columns) || one_is_silent (suc i) columns live
 
 -- these literals and those of a column, in rising order
 abbrev pub rising_onto : List ℤ → List TPat → List ℤ

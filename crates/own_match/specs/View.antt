@@ -29,6 +29,10 @@ column_held shape c = record { shape = shape c.ty; cells = said_all c.cells.item
 abbrev pub columns_held : (Ty → Shape) → List Held → List Column
 columns_held shape cs = map (column_held shape) cs
 
+-- what the patterns say at each of these columns
+abbrev pub cells_of : List Held → List (List TPat)
+cells_of cs = map (λ c. said_all c.cells.items) cs
+
 -- forms that were found
 abbrev pub forms_held : {Z : Type 0} → Option (Vec TPattern Z) → Option TPats
 forms_held None = None
@@ -68,7 +72,3 @@ abbrev pub gap_in_case : (Ty → Shape) → ℕ → CaseInfo → Held → List H
 gap_in_case shape k info c rest live =
     let ss = shapes_of shape info.payloads in
     gathered k (count ss) (gap_in_payloads ss k 0 (said_all c.cells.items) (rest_of shape rest) (narrowed (head.Case k) live (said_all c.cells.items)))
-
--- the forms are missing behind what no pattern of the column mentions
-abbrev pub AreOthers : {Z : Type 0} → (Ty → Shape) → Vec TPattern Z → Held → List Held → List Bool → Type 0
-AreOthers shape others c rest live = Some (pats_of (map pattern_view others.items)) ≡ rest_of shape rest (narrowed head.Other live (said_all c.cells.items))

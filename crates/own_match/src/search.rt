@@ -5,12 +5,13 @@ ghost use Rattle.std.specs.Prelude.{◌≡◌, true, IfOk, Some};
 ghost use Rattle.own_tree.specs.TypedView.{pattern_view};
 ghost use Rattle.own_table.specs.Table.{types_in, shape_in_table, IsTypeIn};
 ghost use Rattle.own_table.specs.Types.{shapes_of};
+ghost use Rattle.own_match.specs.declared.head.Head.TheVariants as head;
 ghost use Rattle.own_match.specs.First.{case_with, form_before, least_of, first_form, first_forms};
 ghost use Rattle.own_match.specs.Inhabited.{AreInhabited};
 ghost use Rattle.own_match.specs.Search.{narrowed, rising, led, gap_in_numbers, gap_in_truths, gap_columns};
-ghost use Rattle.own_match.specs.View.{said_all, columns_held, form_held, forms_held, rest_of, gap_from, gap_in_case, AreOthers, AreTyped, IsCase};
+ghost use Rattle.own_match.specs.View.{said_all, columns_held, form_held, forms_held, rest_of, gap_from, gap_in_case, AreTyped, IsCase};
 
-use crate::column::{Column, is_mentioned, literals, narrowed, payload_columns};
+use crate::column::{Column, is_mentioned, literals, narrowed, one_is_silent, payload_columns};
 use crate::found::{gap_at_end, gather, joined, put_first};
 use crate::head::Head;
 use crate::inhabited::{all_have_values, has_value};
@@ -137,7 +138,8 @@ impl Search<'_> {
         }
     }
 
-    /// The first forms of the columns that no live pattern matches.
+    /// The first forms of the columns that no live pattern matches. Where a live pattern says nothing at
+    /// any of them there is none.
     #[cycle(gap)]
     pub fn first_gap(
         &self,
@@ -149,13 +151,13 @@ impl Search<'_> {
         ensures { IfOk result (λ gap. forms_held gap ≡ gap_columns (columns_held (shape_in_table self.now.table.now) todo.now) live.now) }
     {
         match todo.split_first() {
+            Some(_) if one_is_silent(todo, live) => Ok(None),
             Some((column, rest)) => self.gap_at(column, rest, live),
             None => Ok(gap_at_end(self.alloc, live)),
         }
     }
 
-    /// That of a column and the rest. Where the patterns that say nothing of the column cover the rest,
-    /// there is none.
+    /// That of a column and the rest.
     #[cycle(gap)]
     fn gap_at<'p>(
         &self,
@@ -169,39 +171,15 @@ impl Search<'_> {
         ensures { IfOk result (λ gap. forms_held gap
             ≡ gap_from (shape_in_table self.now.table.now) column.now rest.now live.now) }
     {
-        let silent = narrowed(self.alloc, live, column.cells.as_slice(), Head::Other)?;
-        match self.first_gap(rest, silent.as_slice())? {
-            Some(others) => self.gap_with(others, column, rest, live),
-            None => Ok(None),
-        }
-    }
-
-    /// That of a column and the rest, where these forms of the rest are missing behind what no pattern
-    /// mentions.
-    #[cycle(gap)]
-    fn gap_with<'p>(
-        &self,
-        others: Vec<TPattern>,
-        column: &Column<'p>,
-        rest: &[Column<'p>],
-        live: &[bool],
-    ) -> Result<Option<Vec<TPattern>>, AllocError>
-        requires known { AreInhabited (types_in self.now.table.now) self.now.inhabited.now }
-        requires typed { IsTypeIn self.now.table.now column.now.ty }
-        requires rest_typed { AreTyped self.now.table.now rest.now }
-        requires others_are { AreOthers (shape_in_table self.now.table.now) others column.now rest.now live.now }
-        ensures { IfOk result (λ gap. forms_held gap
-            ≡ gap_from (shape_in_table self.now.table.now) column.now rest.now live.now) }
-    {
         match column.ty {
-            Ty::Int => self.gap_in_numbers(others, column, rest, live),
-            Ty::Bool => self.gap_in_truths(others, column, rest, live),
-            Ty::Unit | Ty::Fun(_) => put_first(TPattern::Any, others),
+            Ty::Int => self.gap_in_numbers(column, rest, live),
+            Ty::Bool => self.gap_in_truths(column, rest, live),
+            Ty::Unit | Ty::Fun(_) => self.under(Head::Other, TPattern::Any, column, rest, live),
             Ty::Named(_) => {
                 if self.table.is_enum(column.ty) {
-                    self.gap_in_cases(others, column, rest, live)
+                    self.gap_in_cases(column, rest, live)
                 } else if has_value(self.inhabited, column.ty) {
-                    put_first(TPattern::Any, others)
+                    self.under(Head::Other, TPattern::Any, column, rest, live)
                 } else {
                     Ok(None)
                 }
@@ -209,52 +187,47 @@ impl Search<'_> {
         }
     }
 
-    /// That of numbers: the literals of the column in rising order, and then all others.
+    /// That of numbers: the literals of the column in rising order, and then all others. Where a literal
+    /// that no live pattern mentions has none, the patterns that say nothing of the column cover the rest.
     #[cycle(gap)]
     fn gap_in_numbers<'p>(
         &self,
-        others: Vec<TPattern>,
         column: &Column<'p>,
         rest: &[Column<'p>],
         live: &[bool],
     ) -> Result<Option<Vec<TPattern>>, AllocError>
         requires known { AreInhabited (types_in self.now.table.now) self.now.inhabited.now }
         requires rest_typed { AreTyped self.now.table.now rest.now }
-        requires others_are { AreOthers (shape_in_table self.now.table.now) others column.now rest.now live.now }
         ensures { IfOk result (λ gap. forms_held gap
             ≡ gap_in_numbers (rising (said_all column.now.cells.items)) (said_all column.now.cells.items) (rest_of (shape_in_table self.now.table.now) rest.now) live.now) }
     {
         let numbers = literals(self.alloc, column.cells.as_slice())?;
         for number in numbers.as_slice() {
             let head = Head::Number(*number);
-            if !is_mentioned(live, column.cells.as_slice(), head) {
-                return put_first(TPattern::Number(*number), others);
-            }
             if let Some(forms) = self.under(head, TPattern::Number(*number), column, rest, live)? {
                 return Ok(Some(forms));
             }
+            if !is_mentioned(live, column.cells.as_slice(), head) {
+                return Ok(None);
+            }
         }
-        put_first(TPattern::Any, others)
+        self.under(Head::Other, TPattern::Any, column, rest, live)
     }
 
-    /// That of the two truths.
+    /// That of the two truths. Where `false` is not mentioned and has none, the patterns that say nothing
+    /// of the column cover the rest.
     #[cycle(gap)]
     fn gap_in_truths<'p>(
         &self,
-        others: Vec<TPattern>,
         column: &Column<'p>,
         rest: &[Column<'p>],
         live: &[bool],
     ) -> Result<Option<Vec<TPattern>>, AllocError>
         requires known { AreInhabited (types_in self.now.table.now) self.now.inhabited.now }
         requires rest_typed { AreTyped self.now.table.now rest.now }
-        requires others_are { AreOthers (shape_in_table self.now.table.now) others column.now rest.now live.now }
         ensures { IfOk result (λ gap. forms_held gap
             ≡ gap_in_truths (said_all column.now.cells.items) (rest_of (shape_in_table self.now.table.now) rest.now) live.now) }
     {
-        if !is_mentioned(live, column.cells.as_slice(), Head::Truth(false)) {
-            return put_first(TPattern::Truth(false), others);
-        }
         if let Some(forms) = self.under(
             Head::Truth(false),
             TPattern::Truth(false),
@@ -264,6 +237,9 @@ impl Search<'_> {
         )? {
             return Ok(Some(forms));
         }
+        if !is_mentioned(live, column.cells.as_slice(), Head::Truth(false)) {
+            return Ok(None);
+        }
         self.under(Head::Truth(true), TPattern::Truth(true), column, rest, live)
     }
 
@@ -271,7 +247,6 @@ impl Search<'_> {
     #[cycle(gap)]
     fn gap_in_cases<'p>(
         &self,
-        others: Vec<TPattern>,
         column: &Column<'p>,
         rest: &[Column<'p>],
         live: &[bool],
@@ -280,7 +255,6 @@ impl Search<'_> {
         requires typed { IsTypeIn self.now.table.now column.now.ty }
         requires is_enum { (types_in self.now.table.now).is_enum column.now.ty ≡ true }
         requires rest_typed { AreTyped self.now.table.now rest.now }
-        requires others_are { AreOthers (shape_in_table self.now.table.now) others column.now rest.now live.now }
         ensures { IfOk result (λ gap. forms_held gap
             ≡ gap_from (shape_in_table self.now.table.now) column.now rest.now live.now) }
     {
@@ -291,7 +265,7 @@ impl Search<'_> {
                     return Err(AllocError);
                 };
                 if !is_mentioned(live, column.cells.as_slice(), Head::Case(case)) {
-                    return self.put_case(case, info, column, others);
+                    return self.gap_in_others(case, info, column, rest, live);
                 }
                 if let Some(forms) = self.under_case(case, info, column, rest, live)? {
                     return Ok(Some(forms));
@@ -299,6 +273,31 @@ impl Search<'_> {
             }
         }
         Ok(None)
+    }
+
+    /// That of a case which has a value and which no live pattern mentions.
+    #[cycle(gap)]
+    fn gap_in_others<'p>(
+        &self,
+        case: u32,
+        info: &CaseInfo,
+        column: &Column<'p>,
+        rest: &[Column<'p>],
+        live: &[bool],
+    ) -> Result<Option<Vec<TPattern>>, AllocError>
+        requires known { AreInhabited (types_in self.now.table.now) self.now.inhabited.now }
+        requires typed { IsTypeIn self.now.table.now column.now.ty }
+        requires case_is { IsCase self.now.table.now column.now.ty case info.now }
+        requires rest_typed { AreTyped self.now.table.now rest.now }
+        ensures { IfOk result (λ gap. forms_held gap
+            ≡ form_before (case_with case (first_forms (shapes_of (shape_in_table self.now.table.now) info.now.payloads) case 0 (said_all column.now.cells.items)))
+            (rest_of (shape_in_table self.now.table.now) rest.now (narrowed head.Other live.now (said_all column.now.cells.items)))) }
+    {
+        let silent = narrowed(self.alloc, live, column.cells.as_slice(), Head::Other)?;
+        match self.first_gap(rest, silent.as_slice())? {
+            Some(others) => self.put_case(case, info, column, others),
+            None => Ok(None),
+        }
     }
 
     /// That behind a value without payloads which begins so.

@@ -12,9 +12,6 @@ decreases-first_gap l = 5 * columns_weight (columns_held (shape_in_table l.self.
 abbrev pub decreases-gap_at : goal.decreases-gap_at
 decreases-gap_at l = 5 * weight_from (shape_in_table l.self.now.table.now) l.column.now l.rest.now + 3
 
-abbrev pub decreases-gap_with : goal.decreases-gap_with
-decreases-gap_with l = 5 * weight_from (shape_in_table l.self.now.table.now) l.column.now l.rest.now + 2
-
 abbrev pub decreases-gap_in_cases : goal.decreases-gap_in_cases
 decreases-gap_in_cases l = 5 * weight_from (shape_in_table l.self.now.table.now) l.column.now l.rest.now + 1
 
@@ -26,6 +23,9 @@ decreases-gap_in_truths l = 5 * weight_from (shape_in_table l.self.now.table.now
 
 abbrev pub decreases-under : goal.decreases-under
 decreases-under l = 5 * weight_from (shape_in_table l.self.now.table.now) l.column.now l.rest.now
+
+abbrev pub decreases-gap_in_others : goal.decreases-gap_in_others
+decreases-gap_in_others l = 5 * weight_from (shape_in_table l.self.now.table.now) l.column.now l.rest.now
 
 abbrev pub decreases-under_case : goal.decreases-under_case
 decreases-under_case l = 5 * weight_from (shape_in_table l.self.now.table.now) l.column.now l.rest.now
