@@ -11,18 +11,10 @@ use Rattle.own_match.specs.Search.{narrowed, is_mentioned, is_silent, is_silent_
 use Rattle.own_match.specs.View.{said_all, cells_of, columns_held}
 use Rattle.own_match.proofs.Narrow.{false_true, CellAccepts}
 use Rattle.own_match.proofs.Covered.{SaysNothing, nothing_said}
-use Rattle.own_match.proofs.Steps.{narrowed_same}
+use Rattle.own_match.proofs.Steps.{narrowed_same, by_both, by_either}
 use Rattle.own_match.proofs.Tuples.{IsLive}
 
 -- ---- a live pattern that says nothing
-
-split : {A : Type 0} (a b : Bool) → (a && b) ≡ true → (a ≡ true → b ≡ true → A) → A
-split true b e k = k refl e
-split false b e k = false_true e
-
-either : {A : Type 0} (a b : Bool) → (a || b) ≡ true → (a ≡ true → A) → (b ≡ true → A) → A
-either true b e j k = j refl
-either false b e j k = k e
 
 silent_cell : (i : ℕ) (cells : List TPat) → is_silent_at i cells ≡ true → CellAccepts head.Other cells i
 silent_cell i cells e = by (slice_get cells i) refl e
@@ -34,13 +26,13 @@ silent_cell i cells e = by (slice_get cells i) refl e
 nothing_held : (shape_of : Ty → Shape) (todo : List Held) (i : ℕ) → says_nothing i (cells_of todo) ≡ true → SaysNothing (columns_held shape_of todo) i
 nothing_held shape_of [] i e = tt
 nothing_held shape_of (c ∷ cs) i e =
-    split (is_silent_at i (said_all c.cells.items)) (says_nothing i (cells_of cs)) e (λ here later. (silent_cell i (said_all c.cells.items) here, nothing_held shape_of cs i later))
+    by_both (is_silent_at i (said_all c.cells.items)) (says_nothing i (cells_of cs)) e (λ here later. (silent_cell i (said_all c.cells.items) here, nothing_held shape_of cs i later))
 
 one_found : (columns : List (List TPat)) (i : ℕ) (live : List Bool) → one_is_silent i columns live ≡ true → (j : ℕ) × IsLive live j × (says_nothing (i + j) columns ≡ true)
 one_found columns i [] e = false_true e
 one_found columns i (l ∷ live) e =
-    either (l && says_nothing i columns) (one_is_silent (suc i) columns live) e
-    (λ here. split l (says_nothing i columns) here (λ alive silent. (zero, ap Some alive, subst (λ n. says_nothing n columns ≡ true) (let z : i ≡ i + zero = omega arith in z) silent)))
+    by_either (l && says_nothing i columns) (one_is_silent (suc i) columns live) e
+    (λ here. by_both l (says_nothing i columns) here (λ alive silent. (zero, ap Some alive, subst (λ n. says_nothing n columns ≡ true) (let z : i ≡ i + zero = omega arith in z) silent)))
     (λ later. (let found = one_found columns (suc i) live later in (suc found.0, found.1, subst (λ n. says_nothing n columns ≡ true) (let z : suc i + found.0 ≡ i + suc found.0 = omega arith in z) found.2)))
 
 pub silent_covers : (shape_of : Ty → Shape) (todo : List Held) (live : List Bool) → one_is_silent 0 (cells_of todo) live ≡ true → None ≡ gap_columns (columns_held shape_of todo) live

@@ -286,11 +286,11 @@ or_some (Some f) g a = (f, refl)
 first_some_or : (f g : Option TPat) → HasSome f → HasSome (or_form f g)
 first_some_or f g a = (a.0, ap (λ x. or_form x g) a.1)
 
-by_both : {A : Type 0} (a b : Bool) → (a && b) ≡ true → (a ≡ true → b ≡ true → A) → A
+pub by_both : {A : Type 0} (a b : Bool) → (a && b) ≡ true → (a ≡ true → b ≡ true → A) → A
 by_both true b e k = k refl e
 by_both false b e k = false_true e
 
-by_either : {A : Type 0} (a b : Bool) → (a || b) ≡ true → (a ≡ true → A) → (b ≡ true → A) → A
+pub by_either : {A : Type 0} (a b : Bool) → (a || b) ≡ true → (a ≡ true → A) → (b ≡ true → A) → A
 by_either true b e j k = j refl
 by_either false b e j k = k e
 
