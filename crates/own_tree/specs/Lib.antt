@@ -1,4 +1,5 @@
 pub mod Characters
+pub mod Limits
 pub mod Source
 pub mod Spelling
 pub mod Status

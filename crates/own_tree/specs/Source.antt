@@ -2,6 +2,7 @@
 use Rattle.std.specs.Prelude.{ℕ, Bool, List, Option}
 use Rattle.own_tree.specs.declared.span.Span.{Span}
 use Rattle.own_tree.specs.declared.tree.Name.{Name}
+use Rattle.own_tree.specs.declared.tree.ClosureName.{ClosureName}
 use Rattle.own_tree.specs.declared.tree.Path.{Path}
 use Rattle.own_tree.specs.declared.tree.Keyword.{Keyword}
 use Rattle.own_tree.specs.declared.tree.PrefixOperator.{PrefixOperator}
@@ -66,7 +67,7 @@ mutual
     arg : Option Name → Given → Args → Args
 
   pub data Clo : Type 0 where
-    closure : Span → List (Option Name) → Stms → Clo
+    closure : Span → List ClosureName → Stms → Clo
 
   pub data Stm : Type 0 where
     let_in : Span → Keyword → Name → Option Name → Exp → Stm

@@ -1,3 +1,5 @@
+ghost use Rattle.own_tree.specs.Limits.{LimitsAreThese};
+
 /// M1: the most bytes of a text.
 pub const MOST_TEXT_BYTES: usize = 1_048_576;
 /// M2: the most tokens of a text.
@@ -26,3 +28,7 @@ pub const MOST_BODY_MAKERS: u32 = 4_096;
 pub const MOST_OPS: u64 = 1_000_000;
 /// The most levels of calls and destructions of a run: a step to one more traps with code 3.
 pub const MOST_LEVELS: u32 = 1_000;
+/// The constants are the numbers that the definitions name.
+pub fn limits_are_these()
+    ensures { LimitsAreThese }
+{}

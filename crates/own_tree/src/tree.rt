@@ -315,12 +315,19 @@ pub enum Passed {
     Closure(Closure),
 }
 
-/// A closure literal. Its names stand before `in`, a `_` as None.
+/// A name of a closure. `_` binds without a name to look up.
+#[derive(Debug, Drop)]
+pub enum ClosureName {
+    Any(Span),
+    Bind(Name),
+}
+
+/// A closure literal. Its names stand before `in`.
 #[cycle(tree)]
 #[derive(Drop)]
 pub struct Closure {
     pub span: Span,
-    pub names: Row<Option<Name>>,
+    pub names: Row<ClosureName>,
     pub statements: Items<Stmt>,
 }
 
