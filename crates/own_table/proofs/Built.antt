@@ -3,7 +3,7 @@ use Rattle.std.proofs.Common.{◌≡◌, ℕ, suc, ◌+◌, ◌-◌, ◌<◌, �
 use Rattle.std.specs.Prelude.{All, codes, ◌&&◌, if◌then◌else◌, nat_lt, slice_get}
 use Rattle.std.specs.List.{list_all}
 use Rattle.std.specs.Str.{bytes_eq}
-use Rattle.std.proofs.lemmas.Bool.{lt-ltb, ltb-false}
+use Rattle.std.proofs.lemmas.Bool.{and_from, lt-ltb, ltb-false}
 use Rattle.std.proofs.lemmas.List.{length-map}
 use Rattle.std.proofs.lemmas.Option.{slice_get_within}
 use Rattle.std.proofs.lemmas.List.Elements.{All-nil, All-cons}
@@ -23,31 +23,27 @@ use Rattle.own_tree.specs.Source.{File}
 use Rattle.own_tree.specs.View.{declaration_view, tree_view}
 use Rattle.own_table.specs.declared.error.TableError.TheVariants as refused
 use Rattle.own_table.specs.declared.extent.Over.{Over}
-use Rattle.own_table.specs.declared.info.TypeInfo.{TypeInfo}
-use Rattle.own_table.specs.declared.survey.Counted.{Counted}
-use Rattle.own_table.specs.declared.survey.Fault.{Fault}
-use Rattle.own_table.specs.declared.survey.Judgement.TheVariants as judgement
-use Rattle.own_table.specs.declared.survey.Survey.{Survey}
-use Rattle.own_table.specs.declared.survey.Written.{Written}
-use Rattle.own_table.specs.declared.survey.Written.TheVariants as written
+use Rattle.own_shapes.specs.declared.info.TypeInfo.{TypeInfo}
+use Rattle.own_shapes.specs.declared.counted.Counted.{Counted}
+use Rattle.own_survey.specs.declared.survey.Fault.{Fault}
+use Rattle.own_survey.specs.declared.survey.Judgement.TheVariants as judgement
+use Rattle.own_survey.specs.declared.survey.Survey.{Survey}
+use Rattle.own_survey.specs.declared.survey.Written.{Written}
+use Rattle.own_survey.specs.declared.survey.Written.TheVariants as written
 use Rattle.own_table.specs.Building.{or_limit, first_limit, IsJudged, HasTable, IsRefused, TablesAreExact, extra_body, limit_found, IsSurveyed}
 use Rattle.own_table.specs.Extents.{HasFewParts, HaveFewParts, over_at, beyond_M8, counted_at, first_over_from, first_over_M8}
-use Rattle.own_table.specs.Judgements.{code_of, declared_as_written, written_name, type_fault, fault_of, nothing, notes, IsFalseOf}
-use Rattle.own_table.specs.Limits.{counted, first_over, type_names, part_counts, taken_count, body_places, taken_counts, over_M4, over_M5, over_M6, over_M7, over_M8}
-use Rattle.own_table.specs.Parts.{Part, a_case, a_type, file_parts}
+use Rattle.own_survey.specs.Judgements.{code_of, declared_as_written, written_name, type_fault, fault_of, nothing, notes, IsFalseOf}
+use Rattle.own_shapes.specs.Counts.{counted, first_over}
+use Rattle.own_survey.specs.Limits.{type_names, part_counts, taken_count, body_places, taken_counts, over_M4, over_M5, over_M6, over_M7, over_M8}
+use Rattle.own_survey.specs.Parts.{Part, a_case, a_type, file_parts}
 use Rattle.own_table.specs.TypeLimits.{at_name, at_span, counts_of}
-use Rattle.own_table.specs.Types.{Types, Declared, declared_types, type_number, written_type, resolved_field, resolved_case, resolved, resolved_types, field_types, all_case_types, contained, is_part, types_resolved, types_declared, types_of, PartsAreTypes, ContainsIn, NoneContainsItself}
-use Rattle.own_table.proofs.ByIndex.{get_in}
-use Rattle.own_table.proofs.Judged.{fault_is_false, nothing_is_false, taken_is, bodies_are, bodies_fit, extra_is}
-use Rattle.own_table.proofs.Members.{In, contains_in}
-use Rattle.own_table.proofs.Numbered.{turned}
-use Rattle.own_table.proofs.PartsIn.{text_field, text_case, text_payload}
+use Rattle.own_shapes.specs.Types.{Types, Declared, declared_types, type_number, written_type, resolved_field, resolved_case, resolved, resolved_types, field_types, all_case_types, contained, is_part, types_resolved, types_declared, types_of, PartsAreTypes, ContainsIn, NoneContainsItself}
+use Rattle.own_shapes.proofs.Lists.{get_in, In, contains_in}
+use Rattle.own_survey.proofs.Judged.{fault_is_false, nothing_is_false, taken_is, bodies_are, bodies_fit, extra_is}
+use Rattle.own_survey.proofs.Numbered.{turned}
+use Rattle.own_survey.proofs.PartsIn.{text_field, text_case, text_payload}
 use Rattle.own_table.proofs.Resolved.{enum_fields}
 use Rattle.own_table.proofs.TypeLimited.{counts_same, first_over_is, length-type_names}
-
-both_true : (a b : Bool) → a ≡ true → b ≡ true → (a && b) ≡ true
-both_true true b e f = f
-both_true false b e f = e
 
 -- ---- names that name types
 
@@ -82,11 +78,11 @@ no_fault_known written.Noncopyable at e u = absurd cc
 
 all_fields : (n : ℕ) (type_of : List ℕ → Ty) (fs : List Field) → ((f : Field) → In fs f → is_part n (type_of f.written.text) ≡ true) → list_all (is_part n) (field_types (map (resolved_field type_of) fs)) ≡ true
 all_fields n type_of [] each = refl
-all_fields n type_of (f ∷ fs) each = both_true (is_part n (type_of f.written.text)) (list_all (is_part n) (field_types (map (resolved_field type_of) fs))) (each f (inl refl)) (all_fields n type_of fs (λ g i. each g (inr i)))
+all_fields n type_of (f ∷ fs) each = and_from (is_part n (type_of f.written.text)) (list_all (is_part n) (field_types (map (resolved_field type_of) fs))) (each f (inl refl)) (all_fields n type_of fs (λ g i. each g (inr i)))
 
 all_names : (n : ℕ) (type_of : List ℕ → Ty) (ns : List Name) → ((m : Name) → In ns m → is_part n (type_of m.text) ≡ true) → list_all (is_part n) (map (λ m. type_of m.text) ns) ≡ true
 all_names n type_of [] each = refl
-all_names n type_of (m ∷ ns) each = both_true (is_part n (type_of m.text)) (list_all (is_part n) (map (λ x. type_of x.text) ns)) (each m (inl refl)) (all_names n type_of ns (λ g i. each g (inr i)))
+all_names n type_of (m ∷ ns) each = and_from (is_part n (type_of m.text)) (list_all (is_part n) (map (λ x. type_of x.text) ns)) (each m (inl refl)) (all_names n type_of ns (λ g i. each g (inr i)))
 
 all_payloads : (n : ℕ) (type_of : List ℕ → Ty) (cs : List CaseItem) → ((c : CaseItem) (m : Name) → In cs c → In c.payloads m → is_part n (type_of m.text) ≡ true)
     → list_all (is_part n) (all_case_types (map (resolved_case type_of) cs)) ≡ true
@@ -94,7 +90,7 @@ all_payloads n type_of [] each = refl
 all_payloads n type_of (c ∷ cs) each =
     let here = map (λ m. type_of m.text) c.payloads in let later = all_case_types (map (resolved_case type_of) cs) in
     list_all-append (is_part n) here later
-    ∙ both_true (list_all (is_part n) here) (list_all (is_part n) later) (all_names n type_of c.payloads (λ m i. each c m (inl refl) i)) (all_payloads n type_of cs (λ d m i j. each d m (inr i) j))
+    ∙ and_from (list_all (is_part n) here) (list_all (is_part n) later) (all_names n type_of c.payloads (λ m i. each c m (inl refl) i)) (all_payloads n type_of cs (λ d m i j. each d m (inr i) j))
 
 mapped : {A B : Type 0} (f : A → B) (xs : List A) (y : B) → In (map f xs) y → (x : A) × In xs x × (f x ≡ y)
 mapped f [] y i = absurd i

@@ -5,12 +5,12 @@ use Rattle.std.specs.List.{list_all}
 use Rattle.std.proofs.lemmas.Bool.{and_parts, leb-true}
 use Rattle.std.proofs.lemmas.List.Elements.{All-nil, All-cons}
 use Rattle.own_tree.specs.declared.limits.TheConstants.{MOST_TYPES, MOST_FIELDS, MOST_PARAMETERS}
-use Rattle.own_table.specs.declared.info.CaseInfo.{CaseInfo}
-use Rattle.own_table.specs.declared.info.TypeInfo.{TypeInfo}
+use Rattle.own_shapes.specs.declared.info.CaseInfo.{CaseInfo}
+use Rattle.own_shapes.specs.declared.info.TypeInfo.{TypeInfo}
 use Rattle.own_table.specs.Extents.{HasFewParts, HaveFewParts}
 use Rattle.own_table.specs.Fitting.{has_few_payloads, has_few_parts, has_known_parts, is_fit, are_fit}
-use Rattle.own_table.specs.Types.{PartsAreTypes}
-use Rattle.own_table.proofs.ByIndex.{get_in}
+use Rattle.own_shapes.specs.Types.{PartsAreTypes}
+use Rattle.own_shapes.proofs.Lists.{get_in}
 use Rattle.own_table.proofs.Whole.{all_in}
 
 few_payloads : (cs : List CaseInfo) → list_all has_few_payloads cs ≡ true → All (λ c. length c.payloads ≤ MOST_PARAMETERS) cs

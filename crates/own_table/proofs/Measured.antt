@@ -8,19 +8,18 @@ use Rattle.std.proofs.lemmas.Option.{slice_get_within}
 use Rattle.own_tree.specs.declared.limits.TheConstants.{MOST_TYPE_SLOTS}
 use Rattle.own_tree.specs.declared.place.Ty.{Ty}
 use Rattle.own_tree.specs.declared.place.Ty.TheVariants as type
-use Rattle.own_table.specs.declared.info.CaseInfo.{CaseInfo}
-use Rattle.own_table.specs.declared.info.FieldInfo.{FieldInfo}
-use Rattle.own_table.specs.declared.info.Measure.{Measure}
-use Rattle.own_table.specs.declared.info.TypeInfo.{TypeInfo}
+use Rattle.own_shapes.specs.declared.info.CaseInfo.{CaseInfo}
+use Rattle.own_shapes.specs.declared.info.FieldInfo.{FieldInfo}
+use Rattle.own_table.specs.declared.measure.Measure.{Measure}
+use Rattle.own_shapes.specs.declared.info.TypeInfo.{TypeInfo}
 use Rattle.own_table.specs.ByParts.{leaves_at, part_leaves, field_leaves, leaves_by_parts, holds_at, part_holds, one_holds, one_case_holds, holds_by_parts, measure_by_parts, slots_at}
-use Rattle.own_table.specs.Extents.{AreKnown, is_nil, within_M8}
+use Rattle.own_table.specs.Extents.{AreKnown, within_M8}
+use Rattle.own_shapes.specs.Types.{is_empty, Types, Shape, struct, enum, is_none, slots, leaves, leaves_from, holds_tracked, one_holds_tracked, one_case_holds_tracked, shapes_of, payloads_of, field_types, case_types, all_case_types, contained, head_of, declared_shape, types_resolved}
 use Rattle.own_table.specs.Measures.{measure_of, AreMeasures}
 use Rattle.own_table.specs.Order.{IsContainmentOrder}
-use Rattle.own_table.specs.Types.{Types, Shape, struct, enum, is_none, slots, leaves, leaves_from, holds_tracked, one_holds_tracked, one_case_holds_tracked, shapes_of, payloads_of, field_types, case_types, all_case_types, contained, head_of, declared_shape, types_resolved}
-use Rattle.own_table.proofs.ByIndex.{set_same, set_other, contains_get}
-use Rattle.own_table.proofs.Members.{In, in_front, in_back, contains_in}
+use Rattle.own_shapes.proofs.Lists.{set_same, set_other, contains_get, In, in_front, in_back, contains_in}
 use Rattle.own_table.proofs.Settled.{order_apart}
-use Rattle.own_table.proofs.Unfolding.{shapes_unfold}
+use Rattle.own_shapes.proofs.Unfolding.{shapes_unfold}
 
 -- one turn of the loop over the properties
 pub fields_step : (ms : List Measure) (fs : List FieldInfo) (i : ℕ) (f : FieldInfo) (ls : List (List ℕ)) → i < length fs → f ≡ get_or fs i f
@@ -63,7 +62,7 @@ module _ (types : Types) (ms : List Measure) where
       ap (λ b. b || one_case_holds ms cs) (holds_right c.payloads (λ t i. all t (in_front c.payloads (all_case_types cs) t i)))
       ∙ ap (λ b. one_holds_tracked (shapes_of types.shape c.payloads) || b) (case_holds_right cs (λ t i. all t (in_back c.payloads (all_case_types cs) t i)))
 
-  nil_none : (fs : List FieldInfo) → is_nil fs ≡ is_none (shapes_of types.shape (field_types fs))
+  nil_none : (fs : List FieldInfo) → is_empty fs ≡ is_none (shapes_of types.shape (field_types fs))
   nil_none [] = refl
   nil_none (f ∷ fs) = refl
 
@@ -74,7 +73,7 @@ module _ (types : Types) (ms : List Measure) where
   type_leaves_right k t all = by_kind t.is_enum refl
     where
       by_parts : Bool → List (List ℕ)
-      by_parts b = if b || (t.has_deinit || is_nil t.fields) then [] ∷ [] else field_leaves ms 0 t.fields
+      by_parts b = if b || (t.has_deinit || is_empty t.fields) then [] ∷ [] else field_leaves ms 0 t.fields
 
       by_shape : Bool → List (List ℕ)
       by_shape b = leaves (if b then enum (head_of k t) (payloads_of types.shape (case_types t.cases)) else struct (head_of k t) (shapes_of types.shape (field_types t.fields)))
@@ -83,7 +82,7 @@ module _ (types : Types) (ms : List Measure) where
       by_kind true e = ap by_parts e ∙ sym (ap by_shape e)
       by_kind false e =
           ap by_parts e
-          ∙ ap (λ x. if t.has_deinit || is_nil t.fields then [] ∷ [] else x) (leaves_right t.fields 0 (parts_by t all false e))
+          ∙ ap (λ x. if t.has_deinit || is_empty t.fields then [] ∷ [] else x) (leaves_right t.fields 0 (parts_by t all false e))
           ∙ ap (λ b. if t.has_deinit || b then [] ∷ [] else leaves_from 0 (shapes_of types.shape (field_types t.fields))) (nil_none t.fields)
           ∙ sym (ap by_shape e)
 

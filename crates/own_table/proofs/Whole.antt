@@ -5,13 +5,13 @@ use Rattle.std.specs.List.{list_all}
 use Rattle.std.proofs.lemmas.Option.{slice_get_cases}
 use Rattle.own_tree.specs.declared.place.Ty.{Ty}
 use Rattle.own_tree.specs.declared.place.Ty.TheVariants as type
-use Rattle.own_table.specs.declared.info.CaseInfo.{CaseInfo}
-use Rattle.own_table.specs.declared.info.FieldInfo.{FieldInfo}
-use Rattle.own_table.specs.declared.info.TypeInfo.{TypeInfo}
+use Rattle.own_shapes.specs.declared.info.CaseInfo.{CaseInfo}
+use Rattle.own_shapes.specs.declared.info.FieldInfo.{FieldInfo}
+use Rattle.own_shapes.specs.declared.info.TypeInfo.{TypeInfo}
 use Rattle.own_table.specs.Table.{TablesAreWhole}
-use Rattle.own_table.specs.Types.{TypeHead, struct, enum, shapes_of, payloads_of, field_types, case_types, all_case_types, head_of, declared_fields, declared_cases, declares_enum, is_part, types_resolved, NoneContainsItself, PartsAreTypes}
-use Rattle.own_table.proofs.Members.{In, in_contains, in_front, in_back}
-use Rattle.own_table.proofs.Unfolding.{shapes_unfold}
+use Rattle.own_shapes.specs.Types.{TypeHead, struct, enum, shapes_of, payloads_of, field_types, case_types, all_case_types, head_of, declared_fields, declared_cases, declares_enum, is_part, types_resolved, NoneContainsItself, PartsAreTypes}
+use Rattle.own_shapes.proofs.Lists.{In, in_contains, in_front, in_back}
+use Rattle.own_shapes.proofs.Unfolding.{shapes_unfold}
 
 pub all_in : {A : Type 0} (p : A → Bool) (xs : List A) → IsTrue (list_all p xs) → (x : A) → In xs x → IsTrue (p x)
 all_in p [] all x i = absurd i

@@ -2,14 +2,14 @@
 use Rattle.std.specs.Prelude.{◌≡◌, ℕ, suc, Bool, false, ◌||◌, if◌then◌else◌, List, [], ◌∷◌, ◌++◌, map, slice_get, Option, Some, None}
 use Rattle.own_tree.specs.declared.place.Ty.{Ty}
 use Rattle.own_tree.specs.declared.place.Ty.TheVariants as type
-use Rattle.own_table.specs.declared.info.CaseInfo.{CaseInfo}
-use Rattle.own_table.specs.declared.info.FieldInfo.{FieldInfo}
-use Rattle.own_table.specs.declared.info.Measure.{Measure}
-use Rattle.own_table.specs.declared.info.TypeInfo.{TypeInfo}
+use Rattle.own_shapes.specs.declared.info.CaseInfo.{CaseInfo}
+use Rattle.own_shapes.specs.declared.info.FieldInfo.{FieldInfo}
+use Rattle.own_table.specs.declared.measure.Measure.{Measure}
+use Rattle.own_shapes.specs.declared.info.TypeInfo.{TypeInfo}
 use Rattle.own_table.specs.declared.measure.Unmeasured.{Unmeasured}
 use Rattle.own_table.specs.declared.measure.Unmeasured.TheVariants as unmeasured
-use Rattle.own_table.specs.Extents.{is_nil, first_over_M8}
-use Rattle.own_table.specs.Types.{field_types}
+use Rattle.own_shapes.specs.Types.{is_empty, field_types}
+use Rattle.own_table.specs.Extents.{first_over_M8}
 
 abbrev pub leaves_at : Option Measure → List (List ℕ)
 leaves_at None = []
@@ -28,7 +28,7 @@ field_leaves ms k [] = []
 field_leaves ms k (f ∷ fs) = map (λ path. k ∷ path) (part_leaves ms f.ty) ++ field_leaves ms (suc k) fs
 
 abbrev pub leaves_by_parts : List Measure → TypeInfo → List (List ℕ)
-leaves_by_parts ms t = if t.is_enum || (t.has_deinit || is_nil t.fields) then [] ∷ [] else field_leaves ms 0 t.fields
+leaves_by_parts ms t = if t.is_enum || (t.has_deinit || is_empty t.fields) then [] ∷ [] else field_leaves ms 0 t.fields
 
 abbrev pub holds_at : Option Measure → Bool
 holds_at None = false

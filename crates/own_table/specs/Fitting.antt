@@ -2,9 +2,9 @@
 use Rattle.std.specs.Prelude.{ℕ, nat_le, Bool, ◌&&◌, List, length}
 use Rattle.std.specs.List.{list_all}
 use Rattle.own_tree.specs.declared.limits.TheConstants.{MOST_TYPES, MOST_FIELDS, MOST_PARAMETERS}
-use Rattle.own_table.specs.declared.info.CaseInfo.{CaseInfo}
-use Rattle.own_table.specs.declared.info.TypeInfo.{TypeInfo}
-use Rattle.own_table.specs.Types.{contained, is_part}
+use Rattle.own_shapes.specs.declared.info.CaseInfo.{CaseInfo}
+use Rattle.own_shapes.specs.declared.info.TypeInfo.{TypeInfo}
+use Rattle.own_shapes.specs.Types.{contained, is_part}
 
 abbrev pub has_few_payloads : CaseInfo → Bool
 has_few_payloads c = nat_le (length c.payloads) MOST_PARAMETERS

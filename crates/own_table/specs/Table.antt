@@ -3,12 +3,12 @@ use Rattle.std.specs.Prelude.{◌≡◌, ℕ, ◌<◌, ◌≤◌, true, false, I
 use Rattle.own_tree.specs.declared.limits.TheConstants.{MOST_TYPES, MOST_TYPE_SLOTS}
 use Rattle.own_tree.specs.declared.place.Ty.{Ty}
 use Rattle.own_tree.specs.declared.place.Ty.TheVariants as type
-use Rattle.own_table.specs.declared.info.CaseInfo.{CaseInfo}
-use Rattle.own_table.specs.declared.info.FieldInfo.{FieldInfo}
-use Rattle.own_table.specs.declared.info.TypeInfo.{TypeInfo}
+use Rattle.own_shapes.specs.declared.info.CaseInfo.{CaseInfo}
+use Rattle.own_shapes.specs.declared.info.FieldInfo.{FieldInfo}
+use Rattle.own_shapes.specs.declared.info.TypeInfo.{TypeInfo}
 use Rattle.own_table.specs.declared.table.TypeTable.{TypeTable}
 use Rattle.own_table.specs.Extents.{first_over_M8}
-use Rattle.own_table.specs.Types.{Types, Shape, TypeHead, struct, enum, shapes_of, payloads_of, field_types, case_types, leaves, slots, is_part, IsType, types_resolved}
+use Rattle.own_shapes.specs.Types.{Types, Shape, TypeHead, struct, enum, shapes_of, payloads_of, field_types, case_types, leaves, slots, is_part, IsType, types_resolved}
 
 abbrev pub types_in : TypeTable → Types
 types_in table = types_resolved table.types

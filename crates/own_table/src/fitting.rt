@@ -3,9 +3,9 @@
 ghost use Rattle.std.specs.Prelude.{◌≡◌, length};
 ghost use Rattle.std.specs.List.{list_all};
 ghost use Rattle.own_table.specs.Fitting.{are_fit, has_few_parts, has_few_payloads, has_known_parts, is_fit};
-ghost use Rattle.own_table.specs.Types.{all_case_types, contained, field_types, is_part};
+ghost use Rattle.own_shapes.specs.Types.{all_case_types, contained, field_types, is_part};
 
-use crate::info::{CaseInfo, FieldInfo, TypeInfo};
+use own_shapes::{CaseInfo, FieldInfo, TypeInfo};
 use own_tree::Ty;
 use own_tree::limits::{MOST_FIELDS, MOST_PARAMETERS, MOST_TYPES};
 

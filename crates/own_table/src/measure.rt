@@ -7,12 +7,20 @@ ghost use Rattle.own_table.specs.ByParts.{field_leaves, holds_by_parts, leaves_a
 ghost use Rattle.own_table.specs.Extents.{AreKnown, HasFewParts, HaveFewParts, first_over_M8};
 ghost use Rattle.own_table.specs.Measures.{AreMeasures};
 ghost use Rattle.own_table.specs.Order.{IsContainmentOrder};
-ghost use Rattle.own_table.specs.Types.{field_types};
+ghost use Rattle.own_shapes.specs.Types.{field_types};
 
 use crate::extent::Over;
-use crate::info::{CaseInfo, FieldInfo, Measure, TypeInfo};
+use own_shapes::{CaseInfo, FieldInfo, TypeInfo};
 use own_tree::{Row, Ty};
 use std::alloc::{AllocError, AllocFailed, Global};
+
+/// What is computed once of a declared type, from what it contains.
+#[derive(Debug, Drop)]
+pub struct Measure {
+    pub holds_tracked: bool,
+    pub slots: u32,
+    pub leaves: Row<Row<u32>>,
+}
 
 /// Why types have no table.
 #[derive(Clone, Copy, Debug)]

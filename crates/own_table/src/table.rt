@@ -3,12 +3,13 @@
 ghost use Rattle.std.specs.Prelude.{◌≡◌, length, ◌≤◌};
 ghost use Rattle.own_tree.specs.declared.limits.TheConstants.{MOST_TYPES};
 ghost use Rattle.own_table.specs.Measures.{AreMeasures, AreWithin};
-ghost use Rattle.own_table.specs.Types.{NoneContainsItself, PartsAreTypes};
+ghost use Rattle.own_shapes.specs.Types.{NoneContainsItself, PartsAreTypes};
 
 use crate::error::Unfit;
 use crate::extent::{first_over, known_slots};
 use crate::fitting::are_fit;
-use crate::info::{CaseInfo, FieldInfo, Measure, TypeInfo};
+use own_shapes::{CaseInfo, FieldInfo, TypeInfo};
+use crate::measure::Measure;
 use crate::mark::Unordered;
 use crate::measure::{Unmeasured, measures};
 use crate::order::containment_order;
@@ -35,7 +36,7 @@ pub struct TypeTable {
 
 impl TypeTable {
     ghost use Rattle.std.specs.Prelude.{◌<◌, slice_get, Some};
-    ghost use Rattle.own_table.specs.Types.{copyable, tracked, holds_tracked, leaves, slots};
+    ghost use Rattle.own_shapes.specs.Types.{copyable, tracked, holds_tracked, leaves, slots};
     ghost use Rattle.std.specs.Prelude.{true, IfOk, IfErr, OnOk};
     ghost use Rattle.own_table.specs.ByParts.{IsOver};
     ghost use Rattle.own_table.specs.Extents.{HaveFewParts};

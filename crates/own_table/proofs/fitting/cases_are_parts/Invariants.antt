@@ -1,6 +1,6 @@
 use Rattle.std.proofs.Common.{◌≡◌, drop}
 use Rattle.std.specs.List.{list_all}
-use Rattle.own_table.specs.Types.{is_part, all_case_types}
+use Rattle.own_shapes.specs.Types.{is_part, all_case_types}
 use Rattle.own_table.proofs.fitting.cases_are_parts.Given as goal
 
 abbrev pub invariant-loop-case : goal.invariant-loop-case

@@ -1,6 +1,6 @@
 use Rattle.std.proofs.Common.{◌≡◌, drop}
 use Rattle.std.specs.List.{list_all}
-use Rattle.own_table.specs.Types.{is_part, field_types}
+use Rattle.own_shapes.specs.Types.{is_part, field_types}
 use Rattle.own_table.proofs.fitting.fields_are_parts.Given as goal
 
 abbrev pub invariant-loop-field : goal.invariant-loop-field

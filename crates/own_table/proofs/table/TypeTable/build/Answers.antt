@@ -6,9 +6,9 @@ use Rattle.own_table.specs.declared.error.TableError.TheVariants as refused
 use Rattle.own_table.specs.Building.{IsRefused}
 use Rattle.own_table.specs.ByParts.{IsOver}
 use Rattle.own_table.specs.Extents.{first_over_M8, HaveFewParts}
-use Rattle.own_table.specs.Limits.{type_names}
+use Rattle.own_survey.specs.Limits.{type_names}
 use Rattle.own_table.specs.Order.{IsCircle}
-use Rattle.own_table.specs.Types.{declared_types, resolved_types, types_resolved, types_of, types_declared, NoneContainsItself, PartsAreTypes}
+use Rattle.own_shapes.specs.Types.{declared_types, resolved_types, types_resolved, types_of, types_declared, NoneContainsItself, PartsAreTypes}
 use Rattle.own_table.proofs.Built.{surveyed_closed, surveyed_few, circle_named, circular_at, has_table, too_large, over_named}
 use Rattle.own_table.proofs.Settled.{order_apart}
 use Rattle.own_table.proofs.table.TypeTable.build.Goals as goal

@@ -1,7 +1,7 @@
 use Rattle.std.proofs.Common.{length, sym, ap, ◌∙◌, subst}
 use Rattle.own_table.specs.Extents.{first_over_M8}
 use Rattle.own_table.specs.Measures.{AreMeasures}
-use Rattle.own_table.specs.Types.{NoneContainsItself}
+use Rattle.own_shapes.specs.Types.{NoneContainsItself}
 use Rattle.own_table.proofs.Extended.{all_within}
 use Rattle.own_table.proofs.FewLeaves.{are_within}
 use Rattle.own_table.proofs.Settled.{order_apart}

@@ -1,7 +1,7 @@
 use Rattle.std.proofs.Common.{◌≡◌, true, sym, ap, ◌∙◌, subst}
 use Rattle.own_table.specs.Fitting.{are_fit}
 use Rattle.own_table.specs.Order.{IsContainmentOrder}
-use Rattle.own_table.specs.Types.{PartsAreTypes}
+use Rattle.own_shapes.specs.Types.{PartsAreTypes}
 use Rattle.own_table.proofs.Fitted.{fit_closed}
 use Rattle.own_table.proofs.Settled.{order_apart}
 use Rattle.own_table.proofs.table.TypeTable.from_types.Goals as goal
