@@ -6,6 +6,7 @@ use Rattle.own_tree.specs.declared.place.Ty.TheVariants as type
 use Rattle.own_tree.specs.declared.span.Span.{Span}
 use Rattle.own_tree.specs.Source.{File}
 use Rattle.own_shapes.specs.declared.counted.Counted.{Counted}
+use Rattle.own_shapes.specs.Counts.{counted, first_over, too_many}
 use Rattle.own_survey.specs.Parts.{Part, a_body, a_case, a_print, file_parts}
 use Rattle.own_shapes.specs.Types.{Types, Declared, declared_types, resolved, contained, slots}
 

@@ -7,4 +7,5 @@ pub mod FewLeaves
 pub mod Fitted
 pub mod Resolved
 pub mod TypeLimited
+pub mod Held
 pub mod Built

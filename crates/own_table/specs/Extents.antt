@@ -7,11 +7,12 @@ use Rattle.own_shapes.specs.declared.info.CaseInfo.{CaseInfo}
 use Rattle.own_shapes.specs.declared.info.TypeInfo.{TypeInfo}
 use Rattle.own_table.specs.declared.extent.Over.{Over}
 use Rattle.own_survey.specs.Limits.{are_within}
-use Rattle.own_shapes.specs.Types.{Types, slots, one_if, contained, field_types, types_resolved}
+use Rattle.own_shapes.specs.Types.{is_empty, Types, slots, one_if, contained, field_types, types_resolved}
 
 -- within M5 and M7
 pub record HasFewParts (t : TypeInfo) : Type 0 where
   pub fields : length t.fields ≤ MOST_FIELDS
+  pub cases : length t.cases ≤ MOST_FIELDS
   pub payloads : All (λ c. length c.payloads ≤ MOST_PARAMETERS) t.cases
 
 abbrev pub HaveFewParts : List TypeInfo → Type 0

@@ -1,8 +1,10 @@
+pub mod HasValue
 pub mod Measures
 pub mod Table
 pub mod Order
 pub mod Extents
 pub mod ByParts
+pub mod Proper
 pub mod Fitting
 pub mod Resolving
 pub mod Unfit

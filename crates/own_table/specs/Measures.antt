@@ -4,10 +4,11 @@ use Rattle.own_tree.specs.declared.limits.TheConstants.{MOST_TYPE_SLOTS}
 use Rattle.own_tree.specs.declared.place.Ty.TheVariants as type
 use Rattle.own_table.specs.declared.measure.Measure.{Measure}
 use Rattle.own_shapes.specs.declared.info.TypeInfo.{TypeInfo}
+use Rattle.own_table.specs.HasValue.{has_value}
 use Rattle.own_shapes.specs.Types.{Shape, holds_tracked, slots, leaves, types_resolved}
 
 abbrev pub measure_of : Shape → Measure
-measure_of s = record { holds_tracked = holds_tracked s; slots = slots s; leaves = leaves s }
+measure_of s = record { has_value = has_value s; holds_tracked = holds_tracked s; slots = slots s; leaves = leaves s }
 
 -- what is computed of each type is that of its shape
 abbrev pub AreMeasures : List TypeInfo → List Measure → Type 0

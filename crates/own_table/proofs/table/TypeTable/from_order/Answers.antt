@@ -23,6 +23,8 @@ invariant_of-result c =
     record {
       few = c.requires.few_types;
       closed = c.requires.closed;
+      few_parts = c.requires.few_parts;
+      proper = c.requires.proper;
       apart = order_apart ts order c.requires.order;
       within = are_within ts c.requires.closed order c.requires.order (all_within ts none order c.requires.order);
       counted = c.in_ok-measures.ensures.each ∙ ap (λ xs. length xs) c.as_slice-4.ensures;
