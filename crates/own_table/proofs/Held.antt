@@ -47,8 +47,8 @@ copyable_number ts k (d ∷ ds) name at plain =
     ] refl
   where
     is_plain : (b : Bool) → (b ≡ true → ⊥) → not b ≡ true
-    is_plain true no = absurd (no refl)
-    is_plain false no = refl
+    is_plain true never = absurd (never refl)
+    is_plain false never = refl
 
 copyable_name : (ts : List TypeInfo) (ds : List Declared) (name : List ℕ) → StandAt ts 0 ds → (written_name ds name ≡ written.Noncopyable → ⊥)
     → is_copyable_among ts (written_type ds name) ≡ true
@@ -125,24 +125,28 @@ own_deinit true false at e = (refl, refl)
 own_deinit false is_enum at e = absurd cc
 
 -- the types of a list of declarations, each at its number
-stand : (all : List Declared) (front rest : List Declared) → StandAt (map (resolved all) front ++ map (resolved all) rest) (length front) rest
+module _ (all : List Declared) (d : Declared) (rest : List Declared) where
+  here : (xs : List Declared) → declares_copyable (slice_get (map (resolved all) xs ++ map (resolved all) (d ∷ rest)) (length xs)) ≡ not d.noncopyable
+  here [] = refl
+  here (x ∷ xs) = here xs
+
+  after : (xs : List Declared) → length (xs ++ d ∷ []) ≡ suc (length xs)
+  after [] = refl
+  after (x ∷ xs) = ap (λ n. suc n) (after xs)
+
+  same : (xs : List Declared) → map (resolved all) (xs ++ d ∷ []) ++ map (resolved all) rest ≡ map (resolved all) xs ++ map (resolved all) (d ∷ rest)
+  same [] = refl
+  same (x ∷ xs) = ap (λ ys. resolved all x ∷ ys) (same xs)
+
+  moved : (xs : List Declared) → StandAt (map (resolved all) (xs ++ d ∷ []) ++ map (resolved all) rest) (length (xs ++ d ∷ [])) rest
+      → StandAt (map (resolved all) xs ++ map (resolved all) (d ∷ rest)) (suc (length xs)) rest
+  moved xs at =
+      subst (λ k. StandAt (map (resolved all) xs ++ map (resolved all) (d ∷ rest)) k rest) (after xs)
+      (subst (λ ts. StandAt ts (length (xs ++ d ∷ [])) rest) (same xs) at)
+
+stand : (all front rest : List Declared) → StandAt (map (resolved all) front ++ map (resolved all) rest) (length front) rest
 stand all front [] = tt
-stand all front (d ∷ rest) = (here front, subst (λ k. StandAt (map (resolved all) front ++ map (resolved all) (d ∷ rest)) k rest) (after front) (moved front))
-  where
-    here : (xs : List Declared) → declares_copyable (slice_get (map (resolved all) xs ++ resolved all d ∷ map (resolved all) rest) (length xs)) ≡ not d.noncopyable
-    here [] = refl
-    here (x ∷ xs) = here xs
-
-    after : (xs : List Declared) → length (xs ++ d ∷ []) ≡ suc (length xs)
-    after [] = refl
-    after (x ∷ xs) = ap (λ n. suc n) (after xs)
-
-    same : (xs : List Declared) → map (resolved all) (xs ++ d ∷ []) ++ map (resolved all) rest ≡ map (resolved all) xs ++ map (resolved all) (d ∷ rest)
-    same [] = refl
-    same (x ∷ xs) = ap (λ ys. resolved all x ∷ ys) (same xs)
-
-    moved : (xs : List Declared) → StandAt (map (resolved all) xs ++ map (resolved all) (d ∷ rest)) (length (xs ++ d ∷ [])) rest
-    moved xs = subst (λ ts. StandAt ts (length (xs ++ d ∷ [])) rest) (same xs) (stand all (xs ++ d ∷ []) rest)
+stand all front (d ∷ rest) = (here all d rest front, moved all d rest front (stand all (front ++ d ∷ []) rest))
 
 module _ (tree : Tree)
     (hold : (p : Part) → In (file_parts (tree_view tree)) p → fault_of (written_name (declared_types (tree_view tree).declarations)) p ≡ None) where

@@ -10,7 +10,7 @@ use Rattle.own_tree.specs.declared.place.Ty.{Ty}
 use Rattle.own_tree.specs.declared.place.Ty.TheVariants as type
 use Rattle.own_shapes.specs.declared.info.CaseInfo.{CaseInfo}
 use Rattle.own_shapes.specs.declared.info.FieldInfo.{FieldInfo}
-use Rattle.own_table.specs.declared.measure.Measure.{Measure}
+use Rattle.own_table.specs.declared.info.Measure.{Measure}
 use Rattle.own_shapes.specs.declared.info.TypeInfo.{TypeInfo}
 use Rattle.own_table.specs.ByParts.{leaves_at, part_leaves, field_leaves, leaves_by_parts, holds_at, part_holds, one_holds, one_case_holds, holds_by_parts, measure_by_parts, slots_at, value_at, part_has_value, all_parts_have_values, one_case_has_values, fields_have_values, value_by_parts}
 use Rattle.own_table.specs.Extents.{AreKnown, within_M8}

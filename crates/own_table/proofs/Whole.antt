@@ -4,6 +4,7 @@ use Rattle.std.proofs.Common.{◌≡◌, ℕ, zero, suc, ◌<◌, ◌≤◌, Boo
 use Rattle.std.specs.Prelude.{All, Contains, IsTrue, not, if◌then◌else◌}
 use Rattle.std.specs.List.{list_all}
 use Rattle.std.proofs.lemmas.Bool.{and_parts}
+use Rattle.std.proofs.lemmas.List.Elements.{All-contains}
 use Rattle.std.proofs.lemmas.List.Folds.{list_all-append}
 use Rattle.std.proofs.lemmas.Option.{slice_get_cases}
 use Rattle.own_tree.specs.declared.limits.TheConstants.{MOST_FIELDS, MOST_PARAMETERS}
@@ -24,11 +25,8 @@ all_in p [] all x i = absurd i
 all_in p (y ∷ ys) all x (inl e) = subst (λ z. IsTrue (p z)) e (and_parts (p y) (list_all p ys) all).0
 all_in p (y ∷ ys) all x (inr h) = all_in p ys (and_parts (p y) (list_all p ys) all).1 x h
 
-all_contains : {A : Type 0} (P : A → Type 0) (xs : List A) → All P xs → (x : A) → Contains xs x → P x
-all_contains P xs all x c = subst P c.2 (all c.0 c.1)
-
 all_at : {A : Type 0} (P : A → Type 0) (xs : List A) → All P xs → (k : ℕ) (x : A) → slice_get xs k ≡ Some x → P x
-all_at P xs all k x e = all_contains P xs all x (get_contains xs k x e)
+all_at P xs all k x e = All-contains P xs x all (get_contains xs k x e)
 
 neither : (a b : Bool) → a ≡ false → b ≡ false → (a || b) ≡ false
 neither true b e f = e
@@ -52,7 +50,7 @@ module _ (ts : List TypeInfo) (proper : AreProper ts) where
   nowhere k lt e = let there = got ts k lt in let h : None ≡ Some there.0 = sym e ∙ there.1 in absurd cc
 
   -- what the head of a declaration says
-  IsHead : ℕ → Option TypeInfo → TypeHead → Type 0
+  abbrev IsHead : ℕ → Option TypeInfo → TypeHead → Type 0
   IsHead k o head = (head.number ≡ k) × (head.changes ≡ map (λ f. f.changes) (declared_fields o)) × (head.has_deinit ≡ true → (head.noncopyable ≡ true) × (declares_enum o ≡ false))
 
   is_head : (k : ℕ) (t : TypeInfo) → slice_get ts k ≡ Some t → IsHead k (Some t) (head_of k t)
@@ -110,7 +108,7 @@ module _ (ts : List TypeInfo) (few : HaveFewParts ts) (proper : AreProper ts) wh
 
   few_payloads : (k : ℕ) (o : Option TypeInfo) → slice_get ts k ≡ o → (c : CaseInfo) → Contains (declared_cases o) c → length c.payloads ≤ MOST_PARAMETERS
   few_payloads k None e c i = absurd (in_contains [] c i)
-  few_payloads k (Some t) e c i = all_contains (λ x. length x.payloads ≤ MOST_PARAMETERS) t.cases (few_parts k t e).payloads c i
+  few_payloads k (Some t) e c i = All-contains (λ x. length x.payloads ≤ MOST_PARAMETERS) t.cases c (few_parts k t e).payloads i
 
   no_cases : (k : ℕ) (o : Option TypeInfo) → slice_get ts k ≡ o → declares_enum o ≡ false → declared_cases o ≡ []
   no_cases k None e is = refl
@@ -144,27 +142,29 @@ no_deinit true noncopyable e has = absurd (let f : false ≡ true = sym e ∙ ha
 no_deinit false noncopyable e has = refl
 
 module _ (ts : List TypeInfo) (proper : AreProper ts) where
+  -- one level of the unfolding, by the level below
+  module _ (depth : ℕ) (below : (ty : Ty) → IsTrue (is_copyable_among ts ty) → holds_tracked (unfolded ts depth ty) ≡ false) (k : ℕ) where
+    of_kind : (is_enum : Bool) (t : TypeInfo) → t.noncopyable ≡ false → (t.has_deinit ≡ true → t.noncopyable ≡ true)
+        → IsTrue (list_all (is_copyable_among ts) (if is_enum then all_case_types t.cases else field_types t.fields))
+        → holds_tracked (if is_enum then enum (head_of k t) (payloads_of (unfolded ts depth) (case_types t.cases)) else struct (head_of k t) (shapes_of (unfolded ts depth) (field_types t.fields))) ≡ false
+    of_kind true t plain has all = none_of_cases (unfolded ts depth) (is_copyable_among ts) below t.cases all
+    of_kind false t plain has all =
+        neither t.has_deinit (one_holds_tracked (shapes_of (unfolded ts depth) (field_types t.fields))) (no_deinit t.has_deinit t.noncopyable plain has)
+        (none_of (unfolded ts depth) (is_copyable_among ts) below (field_types t.fields) all)
+
+    one_level : (o : Option TypeInfo) → slice_get ts k ≡ o → IsTrue (declares_copyable o) → holds_tracked (shape_of_declared (unfolded ts depth) k o) ≡ false
+    one_level None is f = refl
+    one_level (Some t) is f =
+        let plain = not_true t.noncopyable f in
+        of_kind t.is_enum t plain (λ d. ((proper k t is).deinit d).0) ((proper k t is).copyable_parts plain)
+
   quiet : (depth : ℕ) (ty : Ty) → IsTrue (is_copyable_among ts ty) → holds_tracked (unfolded ts depth ty) ≡ false
   quiet zero ty e = refl
   quiet (suc depth) type.Int e = refl
   quiet (suc depth) type.Bool e = refl
   quiet (suc depth) type.Unit e = refl
   quiet (suc depth) (type.Fun k) e = refl
-  quiet (suc depth) (type.Named k) e = by (slice_get ts k) refl e
-    where
-      of_kind : (is_enum : Bool) (t : TypeInfo) → t.noncopyable ≡ false → (t.has_deinit ≡ true → t.noncopyable ≡ true)
-          → IsTrue (list_all (is_copyable_among ts) (if is_enum then all_case_types t.cases else field_types t.fields))
-          → holds_tracked (if is_enum then enum (head_of k t) (payloads_of (unfolded ts depth) (case_types t.cases)) else struct (head_of k t) (shapes_of (unfolded ts depth) (field_types t.fields))) ≡ false
-      of_kind true t plain has all = none_of_cases (unfolded ts depth) (is_copyable_among ts) (quiet depth) t.cases all
-      of_kind false t plain has all =
-          neither t.has_deinit (one_holds_tracked (shapes_of (unfolded ts depth) (field_types t.fields))) (no_deinit t.has_deinit t.noncopyable plain has)
-          (none_of (unfolded ts depth) (is_copyable_among ts) (quiet depth) (field_types t.fields) all)
-
-      by : (o : Option TypeInfo) → slice_get ts k ≡ o → IsTrue (declares_copyable o) → holds_tracked (shape_of_declared (unfolded ts depth) k o) ≡ false
-      by None is f = refl
-      by (Some t) is f =
-          let plain = not_true t.noncopyable f in
-          of_kind t.is_enum t plain (λ d. ((proper k t is).deinit d).0) ((proper k t is).copyable_parts plain)
+  quiet (suc depth) (type.Named k) e = one_level depth (quiet depth) k (slice_get ts k) refl e
 
   -- by the shape of a type
   pub holds_none : (ty : Ty) → copyable ((types_resolved ts).shape ty) ≡ true → holds_tracked ((types_resolved ts).shape ty) ≡ false
@@ -174,15 +174,15 @@ module _ (ts : List TypeInfo) (proper : AreProper ts) where
   holds_none (type.Fun k) e = refl
   holds_none (type.Named k) e = quiet (suc (length ts)) (type.Named k) (by (slice_get ts k) e)
     where
-      of_kind : (is_enum : Bool) (t : TypeInfo)
+      its_kind : (is_enum : Bool) (t : TypeInfo)
           → copyable (if is_enum then enum (head_of k t) (payloads_of (unfolded ts (length ts)) (case_types t.cases)) else struct (head_of k t) (shapes_of (unfolded ts (length ts)) (field_types t.fields))) ≡ true
           → not t.noncopyable ≡ true
-      of_kind true t f = f
-      of_kind false t f = f
+      its_kind true t f = f
+      its_kind false t f = f
 
       by : (o : Option TypeInfo) → copyable (shape_of_declared (unfolded ts (length ts)) k o) ≡ true → IsTrue (declares_copyable o)
       by None f = refl
-      by (Some t) f = of_kind t.is_enum t f
+      by (Some t) f = its_kind t.is_enum t f
 
 pub tables_are_whole : TablesAreWhole
 tables_are_whole table = record {

@@ -5,7 +5,7 @@ use Rattle.own_tree.specs.declared.place.Ty.{Ty}
 use Rattle.own_tree.specs.declared.place.Ty.TheVariants as type
 use Rattle.own_shapes.specs.declared.info.CaseInfo.{CaseInfo}
 use Rattle.own_shapes.specs.declared.info.FieldInfo.{FieldInfo}
-use Rattle.own_table.specs.declared.measure.Measure.{Measure}
+use Rattle.own_table.specs.declared.info.Measure.{Measure}
 use Rattle.own_shapes.specs.declared.info.TypeInfo.{TypeInfo}
 use Rattle.own_table.specs.declared.measure.Unmeasured.{Unmeasured}
 use Rattle.own_table.specs.declared.measure.Unmeasured.TheVariants as unmeasured

@@ -2,7 +2,7 @@
 use Rattle.std.specs.Prelude.{◌≡◌, ℕ, ◌<◌, ◌≤◌, List, length, slice_get, Some}
 use Rattle.own_tree.specs.declared.limits.TheConstants.{MOST_TYPE_SLOTS}
 use Rattle.own_tree.specs.declared.place.Ty.TheVariants as type
-use Rattle.own_table.specs.declared.measure.Measure.{Measure}
+use Rattle.own_table.specs.declared.info.Measure.{Measure}
 use Rattle.own_shapes.specs.declared.info.TypeInfo.{TypeInfo}
 use Rattle.own_table.specs.HasValue.{has_value}
 use Rattle.own_shapes.specs.Types.{Shape, holds_tracked, slots, leaves, types_resolved}

@@ -6,6 +6,7 @@ pub mod build;
 pub mod error;
 pub mod extent;
 mod fitting;
+mod info;
 pub mod laws;
 mod limit;
 mod mark;

@@ -10,18 +10,10 @@ ghost use Rattle.own_table.specs.Measures.{AreMeasures};
 ghost use Rattle.own_table.specs.Order.{IsContainmentOrder};
 
 use crate::extent::Over;
+use crate::info::Measure;
 use own_shapes::{CaseInfo, FieldInfo, TypeInfo};
 use own_tree::{Row, Ty};
 use std::alloc::{AllocError, AllocFailed, Global};
-
-/// What is computed once of a declared type, from what it contains.
-#[derive(Debug, Drop)]
-pub struct Measure {
-    pub has_value: bool,
-    pub holds_tracked: bool,
-    pub slots: u32,
-    pub leaves: Row<Row<u32>>,
-}
 
 /// Why types have no table.
 #[derive(Clone, Copy, Debug)]
