@@ -24,7 +24,7 @@ use Rattle.own_second.specs.SecondForm.{IsSecondForm}
 use Rattle.own_second.proofs.SecondSpread.{spelled_spread}
 use Rattle.own_meaning.specs.Marks.{findings_of}
 use Rattle.own_meaning.proofs.Checked.{findings_are, sound_where_none}
-use Rattle.own_tool.specs.Texts.{finding_lines}
+use Rattle.own_second.specs.Texts.{finding_lines}
 use Rattle.std.specs.Prelude.{Bool, true, false, nat_lt}
 use Rattle.std.proofs.lemmas.Bool.{ltb-true, ltb-false}
 use Rattle.own_second.specs.Lower.{lowered}
