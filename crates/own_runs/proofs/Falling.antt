@@ -12,7 +12,7 @@ use Rattle.own_runs.specs.Events.{Item, printed, line, output_of}
 use Rattle.own_runs.specs.Run.{Outcome, Ended, Trapped, Behaviour, behaviour, output, start, run_to, run_of}
 use Rattle.own_runs.specs.Store.{State, TOO_MANY_LEVELS, temporary, holds, absent, Activation, with_at, root_at}
 use Rattle.own_runs.specs.Values.{Val, int, unit, hole}
-use Rattle.own_runs.specs.Ways.{Way, gives, traps}
+use Rattle.own_ways.specs.Ways.{Way, gives, traps}
 use Rattle.own_runs.proofs.MoreRows.{down, no_types}
 use Rattle.own_runs.proofs.Spelled.{answer, lines}
 

@@ -1,7 +1,6 @@
 pub mod Spelled
 pub mod Rows
 pub mod MoreRows
-pub mod WayRules
 pub mod Related
 pub mod Growing
 pub mod GoingOn

@@ -36,7 +36,7 @@ use Rattle.own_runs.specs.Patterns.{chosen, bound_parts, case_shapes, end_rest, 
 use Rattle.own_runs.specs.Run.{last_of, forget, connected, eval, eval_all, test, drop_value, assign_value, end_slot, end_all, leave_scope, subject_at, bind_as, bind_part, bind_all, holds_guard, take_apart, take_clause, run_clause, late_parts, clause_names, clause_or, exec, exec_all, exec_block, exec_turn, exec_clauses, exec_body, completed, come_back, made_self, result_value, body_value, init_slots, entry_slots, run_body, entered}
 use Rattle.own_runs.specs.Store.{Root, binding, temporary, result, Location, Slot, absent, holds, refers, runs, Activation, State, Act, or_found, activation, set_activation, slot_at, set_slot, begin, finish, own_value, root_value, peek, put, read, vacate, move, hold, take_turn, take_level, log_item, note, born, read_input, first_or_zero, after_first, root_at, below}
 use Rattle.own_runs.specs.Values.{Val, int, bool, unit, struct, variant, hole, Vals, is_whole, all_whole, emptied, vacant, Part, field, payload, Found, found, hollow, nowhere, value_at, with_value_at}
-use Rattle.own_runs.specs.Ways.{◌>>=◌, ◌>>◌, pure, trap, err, stray, look, change, pick, or_stray}
+use Rattle.own_ways.specs.Ways.{◌>>=◌, ◌>>◌, pure, trap, err, stray, look, change, pick, or_stray}
 
 -- what does not hang on the turns that are left
 abbrev pub IsTurnless : {A : Type 0} → (State → A) → Type 0

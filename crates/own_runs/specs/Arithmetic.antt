@@ -6,7 +6,7 @@ use Rattle.own_tree.specs.declared.typed.Comparison.{Comparison}
 use Rattle.own_tree.specs.declared.typed.Comparison.TheVariants as compare
 use Rattle.own_runs.specs.Store.{Act}
 use Rattle.own_runs.specs.Values.{Val, int, bool, unit, struct, variant, hole}
-use Rattle.own_runs.specs.Ways.{pure, trap, stray, pick}
+use Rattle.own_ways.specs.Ways.{pure, trap, stray, pick}
 
 abbrev pub OVERFLOW : ℕ
 OVERFLOW = 1

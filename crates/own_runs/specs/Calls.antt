@@ -16,7 +16,7 @@ use Rattle.own_runs.specs.Destruction.{Passed, given, lent, lent_temporary, clos
 use Rattle.own_runs.specs.Events.{used, printed, line}
 use Rattle.own_runs.specs.Store.{binding, Location, Slot, absent, holds, refers, runs, Act, activation, with_at, slot_at, read, move, below, hold, note, log_item, born, read_input}
 use Rattle.own_runs.specs.Values.{Val, int, bool, unit, struct, variant, hole, Vals, no_vals, val, field}
-use Rattle.own_runs.specs.Ways.{◌>>=◌, ◌>>◌, pure, stray, pick, or_stray}
+use Rattle.own_ways.specs.Ways.{◌>>=◌, ◌>>◌, pure, stray, pick, or_stray}
 
 -- ---- what is passed
 

@@ -8,7 +8,7 @@ use Rattle.own_table.specs.Types as shape
 use Rattle.own_runs.specs.Events.{ended_by_deinit}
 use Rattle.own_runs.specs.Store.{Location, Act, peek, put, vacate, below, take_level, note}
 use Rattle.own_runs.specs.Values.{Val, int, bool, unit, struct, variant, hole, all_whole, Part, field, payload}
-use Rattle.own_runs.specs.Ways.{◌>>=◌, ◌>>◌, pure, err, stray, pick, or_stray}
+use Rattle.own_ways.specs.Ways.{◌>>=◌, ◌>>◌, pure, err, stray, pick, or_stray}
 
 -- What an argument is for its callee: a value that is given away and waits at a place; a place that is lent; one
 -- that is lent for the call alone, and holds a temporary of this shape; a closure; or a text.

@@ -7,7 +7,7 @@ use Rattle.own_runs.specs.Arithmetic.{same, same_truth}
 use Rattle.own_runs.specs.Destruction.{Call, end_value}
 use Rattle.own_runs.specs.Store.{Location, Act, below}
 use Rattle.own_runs.specs.Values.{Val, int, bool, unit, struct, variant, hole, Vals, no_vals, val, Part, payload, Found, found, hollow, nowhere, and_then}
-use Rattle.own_runs.specs.Ways.{◌>>◌, pure, stray}
+use Rattle.own_ways.specs.Ways.{◌>>◌, pure, stray}
 
 -- ---- matching
 

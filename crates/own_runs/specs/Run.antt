@@ -23,7 +23,7 @@ use Rattle.own_runs.specs.Loops.{Flow, onward, broke, continued, returned, then_
 use Rattle.own_runs.specs.Patterns.{chosen, bound_parts, end_rest}
 use Rattle.own_runs.specs.Store.{binding, result, Location, Slot, absent, holds, refers, runs, State, Act, or_found, with_at, slot_at, set_slot, begin, finish, peek, put, read, vacate, move, root_at, below, hold, take_turn, take_level, note}
 use Rattle.own_runs.specs.Values.{Val, int, bool, unit, struct, variant, hole, is_whole, vacant, opened, Part, field}
-use Rattle.own_runs.specs.Ways.{Way, gives, traps, stops, errs, strays, ◌>>=◌, ◌>>◌, pure, trap, stop, stray, pick, or_stray}
+use Rattle.own_ways.specs.Ways.{Way, gives, traps, stops, errs, strays, ◌>>=◌, ◌>>◌, pure, trap, stop, stray, pick, or_stray}
 
 abbrev pub EMPTY_RANGE : ℕ
 EMPTY_RANGE = 4

@@ -4,7 +4,7 @@ use Rattle.own_tree.specs.declared.limits.TheConstants.{MOST_LEVELS}
 use Rattle.own_tree.specs.declared.typed.At.{At}
 use Rattle.own_runs.specs.Events.{Event, made, Item, happened}
 use Rattle.own_runs.specs.Values.{Val, int, struct, Vals, is_whole, emptied, Part, Found, found, hollow, nowhere, value_at, with_value_at}
-use Rattle.own_runs.specs.Ways.{Step, ◌>>=◌, ◌>>◌, pure, trap, stop, err, stray, look, change, pick, or_stray}
+use Rattle.own_ways.specs.Ways.{Step, ◌>>=◌, ◌>>◌, pure, trap, stop, err, stray, look, change, pick, or_stray}
 
 -- ---- the store
 

@@ -1,15 +1,15 @@
 -- The rules of steps that follow one another.
 use Rattle.std.specs.Prelude.{◌≡◌, refl}
-use Rattle.own_runs.specs.Ways.{Way, Step, gives, traps, stops, errs, strays, after, ◌>>=◌, pure}
+use Rattle.own_ways.specs.Ways.{Way, Step, gives, traps, stops, errs, strays, after, ◌>>=◌, pure}
 
-after_pure : {S A : Type 0} (w : Way S A) → after w pure ≡ w
+pub after_pure : {S A : Type 0} (w : Way S A) → after w pure ≡ w
 after_pure (gives a s) = refl
 after_pure (traps code at s) = refl
 after_pure (stops s) = refl
 after_pure (errs s) = refl
 after_pure (strays s) = refl
 
-after_after : {S A B C : Type 0} (w : Way S A) (two : A → S → Way S B) (three : B → S → Way S C)
+pub after_after : {S A B C : Type 0} (w : Way S A) (two : A → S → Way S B) (three : B → S → Way S C)
     → after (after w two) three ≡ after w (λ a. two a >>= three)
 after_after (gives a s) two three = refl
 after_after (traps code at s) two three = refl

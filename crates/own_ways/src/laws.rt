@@ -1,0 +1,8 @@
+//! Laws of the definitions. Each function does nothing; its contract is the law.
+
+ghost use Rattle.own_ways.specs.Laws.{ExactResultsAreInts};
+
+/// Of a first operand that is an `Int`, what an operation gives is one.
+pub fn exact_results_are_ints()
+    ensures { ExactResultsAreInts }
+{}
