@@ -5,4 +5,4 @@
 pub mod laws;
 pub mod traps;
 
-pub use laws::exact_results_are_ints;
+pub use laws::{exact_results_are_ints, trap_codes_are_these};
