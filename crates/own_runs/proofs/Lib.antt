@@ -1,6 +1,8 @@
 pub mod Spelled
 pub mod Rows
 pub mod MoreRows
+pub mod Broken
+pub mod Lists
 pub mod Related
 pub mod Growing
 pub mod GoingOn

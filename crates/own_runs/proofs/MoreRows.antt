@@ -1,6 +1,7 @@
 -- Worked programs with enums, numbers and levels, run.
 use Rattle.std.specs.Prelude.{◌≡◌, refl, ℕ, ℤ, pos, neg_ℤ, true, false, List, [], ◌∷◌, Some, None, codes}
 use Rattle.std.specs.Fmt.{digits}
+use Rattle.std.specs.Int.{int_wrap}
 use Rattle.own_tree.specs.declared.arithmetic.Arith.TheVariants as arith_of
 use Rattle.own_tree.specs.declared.place.Mode.TheVariants as mode
 use Rattle.own_tree.specs.declared.place.Ty.{Ty}
@@ -11,7 +12,7 @@ use Rattle.own_tree.specs.declared.typed.Comparison.TheVariants as compare
 use Rattle.own_tree.specs.declared.typed.Passing.TheVariants as passing
 use Rattle.own_tree.specs.declared.typed.Target.TheVariants as target
 use Rattle.own_tree.specs.Source.{enum_of, cases, struct_of}
-use Rattle.own_tree.specs.TypedSource.{bind, any, of_case, pat, no_pats, TExp, truth, arithmetic, wrapping, compared, call, member, consumed, case_of, case_where, default, let_in, ignore, update, discard_self, if_then, if_else, loop_while, loop_repeat, loop_for, leave, go_on, switch, return_value, clause, no_clauses, TBody, Program, function, closure, choice, assign}
+use Rattle.own_tree.specs.TypedSource.{bind, any, of_case, pat, no_pats, TExp, truth, arithmetic, wrapping, compared, call, member, parenthesized, consumed, case_of, case_where, default, let_in, ignore, update, discard_self, if_then, if_else, loop_while, loop_repeat, loop_for, leave, go_on, switch, return_value, clause, no_clauses, TBody, Program, function, closure, choice, assign}
 use Rattle.own_table.specs.Types.{Types, types_declared}
 use Rattle.own_runs.specs.Run.{Outcome, Ended, Trapped, Cut, behaviour, output, run_of, run_to, start}
 use Rattle.own_runs.proofs.Spelled.{answer, traced_answer, lines, sp, node, at, in_place, path_at, p, i, v, w, exps, stms, blk, do_, say, read_int, equal, has, ends, name_at, case_with, noncopyable_struct, types_with, bound, body_with, function_body, main_body, file_decl, with_file, alone, new, f, fd, file_types, local_file, local_int}
@@ -108,7 +109,7 @@ says es = alone (main_body (say 1 es ∷ []) ∷ []) []
 -- `&+` wraps, and truths are spelled.
 sum_wraps : answer no_types (says (wrapping (at 2 type.Int) arith_of.Add (largest 3) (i 4 1) ∷ equal 5 (truth (at 6 type.Bool) true) (truth (at 7 type.Bool) false) ∷ [])) [] 9
     ≡ (Ended, lines (codes "-9223372036854775808 false" ∷ []))
-unfolding run_of types_declared digits
+unfolding run_of types_declared digits int_wrap
 sum_wraps = refl
 
 -- All items of a `print` are evaluated before it writes.
@@ -283,6 +284,35 @@ handed_out_runs : traced_answer key_types handed_out [] 9
     ≡ (Ended, lines (codes "made Key #1" ∷ codes "made Key #2" ∷ codes "key 4" ∷ codes "ended Key #2 by deinit" ∷ codes "key 4" ∷ codes "ended Key #1 by deinit" ∷ codes "4" ∷ []))
 unfolding run_of types_declared digits
 handed_out_runs = refl
+
+abbrev pair : Ty
+pair = type.Named 0
+
+abbrev box : Ty
+box = type.Named 1
+
+abbrev box_types : Types
+box_types = types_with (
+    struct_of (sp 0) (name_at (codes "Pair")) false (has (codes "x") (codes "Int") ∷ has (codes "y") (codes "Int") ∷ [])
+    ∷ noncopyable_struct (codes "Box") (has (codes "pair") (codes "Pair") ∷ ends ∷ []) ∷ [])
+
+-- `print("at", ((Box(pair: Pair(x: 1, y: 2))).pair).y)`
+abbrev opened_at_once : Program
+opened_at_once = alone (
+    main_body (say 1 (
+    w 2 (codes "at")
+    ∷ member (at 3 type.Int) (parenthesized (at 4 pair) (member (at 5 pair) (parenthesized (at 6 box) (
+    call (at 7 box) (target.Memberwise 1) (exps (
+    call (at 8 pair) (target.Memberwise 0) (exps (i 9 1 ∷ i 10 2 ∷ [])) (passing.ByValue ∷ passing.ByValue ∷ []) ∷ [])) (passing.ByValue ∷ []))) 0)) 1
+    ∷ []) ∷ [])
+    ∷ body_with body.Deinitializer (Some 1) (0 ∷ []) type.Unit (say 1 (w 2 (codes "gone") ∷ []) ∷ []) ∷ [])
+    (bound (codes "self") box mode.SelfDeinit 1 ∷ [])
+
+-- A temporary ends when its property is read, before the property of that one is, and before anything is written.
+opened_runs : answer box_types opened_at_once [] 9
+    ≡ (Ended, lines (codes "gone" ∷ codes "at 2" ∷ []))
+unfolding run_of types_declared digits
+opened_runs = refl
 
 -- ---- jumps
 

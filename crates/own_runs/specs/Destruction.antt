@@ -11,13 +11,12 @@ use Rattle.own_runs.specs.Values.{Val, int, bool, unit, struct, variant, hole, a
 use Rattle.own_ways.specs.Ways.{◌>>=◌, ◌>>◌, pure, err, stray, pick, or_stray}
 
 -- What an argument is for its callee: a value that is given away and waits at a place; a place that is lent; one
--- that is lent for the call alone, and holds a temporary of this shape; a closure; or a text.
+-- that is lent for the call alone, and holds a temporary of this shape; or a closure.
 pub data Passed : Type 0 where
   given : Location → Passed
   lent : Location → Passed
   lent_temporary : Shape → Location → Passed
   closed : (body maker : ℕ) → Passed
-  words : List ℕ → Passed
 
 -- A call of a body: its number; the activation that made it, if it is a closure; what is passed; and the level that
 -- calls. It gives the body's result.

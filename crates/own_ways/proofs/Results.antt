@@ -1,11 +1,14 @@
 -- What an operation gives is an `Int`.
-use Rattle.std.proofs.Common.{◌≡◌, ℕ, zero, suc, ◌≤◌, ◌^◌, ◌%◌, Bool, true, false, if◌then◌else◌, ◌==◌, unsigned_abs, refl, subst, arith}
+use Rattle.std.proofs.Common.{◌≡◌, ℕ, zero, suc, ◌<◌, ◌≤◌, ◌^◌, ◌%◌, Bool, true, false, if◌then◌else◌, ◌==◌, unsigned_abs, refl, subst, arith}
 use Rattle.std.specs.Prelude.{ℤ, pos, negsuc, neg_ℤ, ◌+ℤ◌, ◌-ℤ◌, ◌*ℤ◌, int_div, int_rem, nat_abs}
 use Rattle.std.proofs.lemmas.Int.{ints}
 use Rattle.std.proofs.Math.Nat.{mod-le}
 use Rattle.own_tree.specs.declared.arithmetic.Arith.TheVariants.{Add, Sub, Mul, Div, Rem, Neg}
 use Rattle.own_ways.specs.Exact.{Gives, Fails, given_if, is_int}
 use Rattle.own_ways.specs.Laws.{ExactResultsAreInts}
+
+pub int_above : (n : ℕ) → n < 2 ^ 63 → is_int (pos n) ≡ true
+int_above n lt = grind (arith, ints)
 
 pub int_below : (n : ℕ) → n ≤ 2 ^ 63 → is_int (neg_ℤ (pos n)) ≡ true
 int_below zero le = refl
