@@ -13,7 +13,7 @@ use Rattle.own_tree.specs.declared.typed.Form.TheVariants as form
 use Rattle.own_tree.specs.declared.typed.ParamInfo.{ParamInfo}
 use Rattle.own_tree.specs.declared.typed.Passing.{Passing}
 use Rattle.own_tree.specs.declared.typed.Passing.TheVariants as passing
-use Rattle.own_table.specs.Types.{Shape, copyable}
+use Rattle.own_shapes.specs.Types.{Shape, copyable}
 use Rattle.own_calls.specs.declared.arguments.TheConstants.{ARGUMENTS_DIFFER}
 use Rattle.own_calls.specs.declared.error.TypeError.{TypeError}
 use Rattle.own_calls.specs.declared.error.TypeError.TheVariants as type_error

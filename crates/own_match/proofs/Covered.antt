@@ -3,8 +3,8 @@ use Rattle.std.proofs.Common.{◌≡◌, ℕ, zero, suc, ◌⊎◌, ℤ, Bool, t
 use Rattle.std.specs.Cmp.{signed_Decides}
 use Rattle.std.proofs.lemmas.Option.{same_Some, none-some}
 use Rattle.own_tree.specs.TypedSource.{TPat, any, bind, of_case, of_number, of_truth, TPats, no_pats, pat}
-use Rattle.own_table.specs.Types.{TypeHead, Shape, Shapes, no_shapes, Payloads, no_payloads, payloads}
-use Rattle.own_table.specs.Types as shape
+use Rattle.own_shapes.specs.Types.{TypeHead, Shape, Shapes, no_shapes, Payloads, no_payloads, payloads}
+use Rattle.own_shapes.specs.Types as shape
 use Rattle.own_match.specs.declared.head.Head.{Head}
 use Rattle.own_match.specs.declared.head.Head.TheVariants as head
 use Rattle.own_match.specs.Values.{Val, int, bool, opaque, struct, variant, Vals, no_vals, val, IsOf, IsOfCase, AreOf}

@@ -6,10 +6,10 @@ use Rattle.own_tree.specs.declared.place.Ty.{Ty}
 use Rattle.own_tree.specs.declared.place.Ty.TheVariants as type
 use Rattle.own_tree.specs.TypedSource.{TPat, TPats, no_pats}
 use Rattle.own_tree.specs.TypedView.{pats_of, pattern_view}
-use Rattle.own_table.specs.declared.info.CaseInfo.{CaseInfo}
+use Rattle.own_shapes.specs.declared.info.CaseInfo.{CaseInfo}
 use Rattle.own_table.specs.declared.table.TypeTable.{TypeTable}
-use Rattle.own_table.specs.Types.{TypeHead, Shape, Shapes, no_shapes, Payloads, no_payloads, payloads, shapes_of, payloads_of, field_types, case_types, IsType}
-use Rattle.own_table.specs.Types as shape
+use Rattle.own_shapes.specs.Types.{TypeHead, Shape, Shapes, no_shapes, Payloads, no_payloads, payloads, shapes_of, payloads_of, field_types, case_types, IsType}
+use Rattle.own_shapes.specs.Types as shape
 use Rattle.own_table.specs.Table.{types_in, shape_in_table, IsTypeIn, AreWhole}
 use Rattle.own_table.proofs.Whole.{tables_are_whole}
 use Rattle.own_match.specs.Inhabited.{has_value, all_have_values, AreInhabited}

@@ -5,7 +5,7 @@ use Rattle.own_tree.specs.declared.pattern.Cover.TheVariants as cover
 use Rattle.own_tree.specs.declared.pattern.TPattern.{TPattern}
 use Rattle.own_tree.specs.TypedSource.{TPat, TPats, no_pats, pat}
 use Rattle.own_tree.specs.TypedView.{pats_of, pattern_view}
-use Rattle.own_table.specs.Types.{Shape}
+use Rattle.own_shapes.specs.Types.{Shape}
 use Rattle.own_match.specs.Answers.{IsAll, single}
 use Rattle.own_match.specs.Values.{Val, Vals, no_vals, val, IsOf, IsCovered, Covers}
 use Rattle.own_match.specs.Forms.{StandsFor, IsMissing, IsFirst}

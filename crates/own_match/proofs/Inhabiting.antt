@@ -4,11 +4,11 @@ use Rattle.std.specs.List.{AllByRecursion}
 use Rattle.std.proofs.lemmas.Option.{same_Some, none-some, slice_get-get_or}
 use Rattle.own_tree.specs.declared.place.Ty.{Ty}
 use Rattle.own_tree.specs.declared.place.Ty.TheVariants as type
-use Rattle.own_table.specs.declared.info.CaseInfo.{CaseInfo}
-use Rattle.own_table.specs.declared.info.FieldInfo.{FieldInfo}
+use Rattle.own_shapes.specs.declared.info.CaseInfo.{CaseInfo}
+use Rattle.own_shapes.specs.declared.info.FieldInfo.{FieldInfo}
 use Rattle.own_table.specs.declared.table.TypeTable.{TypeTable}
-use Rattle.own_table.specs.Types.{Types, TypeHead, Shape, Shapes, no_shapes, Payloads, no_payloads, payloads, shapes_of, payloads_of, field_types, case_types, is_part, IsType}
-use Rattle.own_table.specs.Types as shape
+use Rattle.own_shapes.specs.Types.{Types, TypeHead, Shape, Shapes, no_shapes, Payloads, no_payloads, payloads, shapes_of, payloads_of, field_types, case_types, is_part, IsType}
+use Rattle.own_shapes.specs.Types as shape
 use Rattle.own_table.specs.Table.{types_in, shape_in_table, AreWhole}
 use Rattle.own_table.proofs.Whole.{tables_are_whole}
 use Rattle.own_match.specs.Search.{inhabited, all_inhabited, one_inhabited}

@@ -3,8 +3,8 @@ use Rattle.std.proofs.Common.{◌≡◌, ℕ, zero, suc, ◌<◌, ◌⊎◌, ℤ
 use Rattle.std.specs.Ordering.{MatchOrdering}
 use Rattle.std.specs.Cmp.{int_ranks}
 use Rattle.own_tree.specs.TypedSource.{TPat, any, bind, of_case, of_number, of_truth, TPats, no_pats, pat}
-use Rattle.own_table.specs.Types.{Shape, Shapes, no_shapes, Payloads, no_payloads, payloads}
-use Rattle.own_table.specs.Types as shape
+use Rattle.own_shapes.specs.Types.{Shape, Shapes, no_shapes, Payloads, no_payloads, payloads}
+use Rattle.own_shapes.specs.Types as shape
 use Rattle.own_match.specs.Forms.{inside, IsForm, IsFormOfCase, AreForms, ComesBefore, AllComeBefore, IsMissing, IsFirst}
 use Rattle.own_match.specs.Laws.{ValuesHaveForms, FormsAreOrdered, FormsAreApart, FirstMissingIsOne}
 use Rattle.own_match.proofs.Covered.{has_form}

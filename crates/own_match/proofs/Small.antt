@@ -3,11 +3,11 @@ use Rattle.std.proofs.Common.{◌≡◌, ℕ, suc, ◌+◌, ◌<◌, ◌≤◌, 
 use Rattle.std.specs.List.{AllByRecursion}
 use Rattle.own_tree.specs.declared.place.Ty.{Ty}
 use Rattle.own_tree.specs.declared.place.Ty.TheVariants as type
-use Rattle.own_table.specs.declared.info.CaseInfo.{CaseInfo}
-use Rattle.own_table.specs.declared.info.FieldInfo.{FieldInfo}
+use Rattle.own_shapes.specs.declared.info.CaseInfo.{CaseInfo}
+use Rattle.own_shapes.specs.declared.info.FieldInfo.{FieldInfo}
 use Rattle.own_table.specs.declared.table.TypeTable.{TypeTable}
-use Rattle.own_table.specs.Types.{TypeHead, Shape, Shapes, no_shapes, Payloads, no_payloads, payloads, shapes_of, payloads_of, field_types, case_types, is_part, is_none, one_if, slots, all_slots, most_slots}
-use Rattle.own_table.specs.Types as shape
+use Rattle.own_shapes.specs.Types.{TypeHead, Shape, Shapes, no_shapes, Payloads, no_payloads, payloads, shapes_of, payloads_of, field_types, case_types, is_part, is_none, one_if, slots, all_slots, most_slots}
+use Rattle.own_shapes.specs.Types as shape
 use Rattle.own_table.specs.Table.{types_in, shape_in_table, AreWhole}
 use Rattle.own_table.proofs.Whole.{tables_are_whole}
 use Rattle.own_match.specs.Laws.{FormsAreSmall}

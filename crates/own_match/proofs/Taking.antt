@@ -4,9 +4,9 @@ use Rattle.own_tree.specs.declared.pattern.TPattern.{TPattern}
 use Rattle.own_tree.specs.declared.place.Ty.{Ty}
 use Rattle.own_tree.specs.TypedSource.{TPat, of_number, TPats}
 use Rattle.own_tree.specs.TypedView.{pats_of, pattern_view}
-use Rattle.own_table.specs.declared.info.CaseInfo.{CaseInfo}
+use Rattle.own_shapes.specs.declared.info.CaseInfo.{CaseInfo}
 use Rattle.own_table.specs.declared.table.TypeTable.{TypeTable}
-use Rattle.own_table.specs.Types.{Shape, Shapes, shapes_of, payloads_of, case_types}
+use Rattle.own_shapes.specs.Types.{Shape, Shapes, shapes_of, payloads_of, case_types}
 use Rattle.own_match.specs.declared.column.Column.{Column as Held}
 use Rattle.own_match.specs.declared.head.Head.TheVariants as head
 use Rattle.own_match.specs.Search.{all_inhabited, narrowed, is_mentioned, or_else, led, gathered, count, Later, gap_in_numbers, gap_in_cases, gap_in_payloads, gap_columns, payload_columns}

@@ -1,8 +1,8 @@
 -- Columns side by side: the values and the forms of several places, and those of a case's payloads before the rest.
 use Rattle.std.proofs.Common.{◌≡◌, ℕ, zero, suc, Bool, true, List, [], ◌∷◌, Some, slice_get, inl, inr, refl, ap}
 use Rattle.own_tree.specs.TypedSource.{TPat, TPats, no_pats, pat}
-use Rattle.own_table.specs.Types.{Shape, Shapes, no_shapes, Payloads, no_payloads, payloads}
-use Rattle.own_table.specs.Types as shape
+use Rattle.own_shapes.specs.Types.{Shape, Shapes, no_shapes, Payloads, no_payloads, payloads}
+use Rattle.own_shapes.specs.Types as shape
 use Rattle.own_match.specs.Values.{Val, Vals, no_vals, val, IsOf, AreOf, Matches}
 use Rattle.own_match.specs.Forms.{inside, IsForm, AreForms, StandsFor, AllStandFor, AllComeBefore}
 use Rattle.own_match.specs.Search.{Column, count, front, back}

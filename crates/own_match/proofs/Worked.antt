@@ -1,8 +1,8 @@
 -- What is missing in worked lists of patterns.
 use Rattle.std.proofs.Common.{◌≡◌, pos, negsuc, true, false, List, [], ◌∷◌, map, Option, Some, None, refl}
 use Rattle.own_tree.specs.TypedSource.{TPat, any, bind, of_case, of_number, TPats, no_pats, pat}
-use Rattle.own_table.specs.Types.{TypeHead, Shape, Shapes, no_shapes, Payloads, no_payloads, payloads}
-use Rattle.own_table.specs.Types as shape
+use Rattle.own_shapes.specs.Types.{TypeHead, Shape, Shapes, no_shapes, Payloads, no_payloads, payloads}
+use Rattle.own_shapes.specs.Types as shape
 use Rattle.own_match.specs.Search.{gap_columns}
 
 here : TypeHead

@@ -1,8 +1,8 @@
 -- The first form of a type, where no pattern that is still live says anything at a place or below it.
 use Rattle.std.specs.Prelude.{ℕ, zero, suc, ℤ, Bool, true, false, List, [], ◌∷◌, Option, Some, None}
 use Rattle.own_tree.specs.TypedSource.{TPat, any, of_case, of_number, of_truth, TPats, no_pats, pat}
-use Rattle.own_table.specs.Types.{Shape, Shapes, no_shapes, Payloads, no_payloads, payloads}
-use Rattle.own_table.specs.Types as shape
+use Rattle.own_shapes.specs.Types.{Shape, Shapes, no_shapes, Payloads, no_payloads, payloads}
+use Rattle.own_shapes.specs.Types as shape
 use Rattle.own_match.specs.Forms.{inside}
 use Rattle.own_match.specs.Search.{all_inhabited, rising, Column}
 

@@ -2,8 +2,8 @@
 -- truths, at an `Int` a literal that some pattern has at the same place, or `_` for all other numbers, and `_` at a struct.
 use Rattle.std.specs.Prelude.{◌≡◌, ℕ, zero, suc, ◌<◌, ◌==◌, ℤ, ◌<ℤ◌, true, false, if◌then◌else◌, ◌⊎◌, List, [], ◌∷◌, map, Contains}
 use Rattle.own_tree.specs.TypedSource.{TPat, any, bind, of_case, of_number, of_truth, TPats, no_pats, pat}
-use Rattle.own_table.specs.Types.{Shape, Shapes, no_shapes, Payloads, no_payloads, payloads}
-use Rattle.own_table.specs.Types as shape
+use Rattle.own_shapes.specs.Types.{Shape, Shapes, no_shapes, Payloads, no_payloads, payloads}
+use Rattle.own_shapes.specs.Types as shape
 use Rattle.own_match.specs.Values.{Val, int, bool, variant, Vals, no_vals, val, IsOf, IsCovered}
 
 -- ---- what patterns say at a place

@@ -5,9 +5,9 @@ use Rattle.std.specs.List.{list_any, list_all}
 use Rattle.std.specs.Option.{unwrap_or}
 use Rattle.own_tree.specs.declared.place.Ty.{Ty}
 use Rattle.own_tree.specs.declared.place.Ty.TheVariants as type
-use Rattle.own_table.specs.declared.info.CaseInfo.{CaseInfo}
-use Rattle.own_table.specs.declared.info.FieldInfo.{FieldInfo}
-use Rattle.own_table.specs.Types.{Types}
+use Rattle.own_shapes.specs.declared.info.CaseInfo.{CaseInfo}
+use Rattle.own_shapes.specs.declared.info.FieldInfo.{FieldInfo}
+use Rattle.own_shapes.specs.Types.{Types}
 use Rattle.own_match.specs.Search.{inhabited}
 
 -- the type is known to have a value

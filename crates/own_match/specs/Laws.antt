@@ -5,7 +5,7 @@ use Rattle.own_tree.specs.declared.limits.TheConstants.{MOST_TYPE_SLOTS}
 use Rattle.own_tree.specs.declared.place.Ty.TheVariants as type
 use Rattle.own_table.specs.declared.table.TypeTable.{TypeTable}
 use Rattle.own_table.specs.Table.{types_in, shape_in_table}
-use Rattle.own_table.specs.Types.{Shape}
+use Rattle.own_shapes.specs.Types.{Shape}
 use Rattle.own_match.specs.Weights.{weight}
 use Rattle.own_match.specs.Values.{Val, IsOf}
 use Rattle.own_match.specs.Forms.{IsForm, StandsFor, ComesBefore, IsMissing, IsFirst}

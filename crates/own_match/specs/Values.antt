@@ -1,8 +1,8 @@
 -- The values of a type as patterns see them, and which values match a pattern. A type is given by its shape.
 use Rattle.std.specs.Prelude.{◌≡◌, ℕ, zero, suc, ℤ, Bool, List, Any}
 use Rattle.own_tree.specs.TypedSource.{TPat, any, bind, of_case, of_number, of_truth, TPats, pat}
-use Rattle.own_table.specs.Types.{Shape, Shapes, no_shapes, Payloads, no_payloads, payloads}
-use Rattle.own_table.specs.Types as shape
+use Rattle.own_shapes.specs.Types.{Shape, Shapes, no_shapes, Payloads, no_payloads, payloads}
+use Rattle.own_shapes.specs.Types as shape
 
 mutual
   pub data Val : Type 0 where

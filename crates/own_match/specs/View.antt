@@ -7,9 +7,9 @@ use Rattle.own_tree.specs.TypedSource.{TPat, any, TPats}
 use Rattle.own_tree.specs.TypedView.{pattern_view, pats_of}
 use Rattle.own_tree.specs.declared.place.Ty.{Ty}
 use Rattle.own_table.specs.declared.table.TypeTable.{TypeTable}
-use Rattle.own_table.specs.declared.info.CaseInfo.{CaseInfo}
+use Rattle.own_shapes.specs.declared.info.CaseInfo.{CaseInfo}
 use Rattle.own_table.specs.Table.{IsTypeIn, types_in}
-use Rattle.own_table.specs.Types.{Shape, shapes_of}
+use Rattle.own_shapes.specs.Types.{Shape, shapes_of}
 use Rattle.own_match.specs.declared.column.Column.{Column as Held}
 use Rattle.own_match.specs.declared.head.Head.TheVariants as head
 use Rattle.own_match.specs.Search.{Column, Later, narrowed, gathered, count, gap, gap_in_payloads, gap_columns}

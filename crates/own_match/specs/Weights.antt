@@ -1,7 +1,7 @@
 -- How much is left to look at: every step of the search goes to less.
 use Rattle.std.specs.Prelude.{ℕ, ◌+◌, max, List, [], ◌∷◌}
-use Rattle.own_table.specs.Types.{Shape, Shapes, no_shapes, Payloads, no_payloads, payloads}
-use Rattle.own_table.specs.Types as shape
+use Rattle.own_shapes.specs.Types.{Shape, Shapes, no_shapes, Payloads, no_payloads, payloads}
+use Rattle.own_shapes.specs.Types as shape
 use Rattle.own_tree.specs.declared.place.Ty.{Ty}
 use Rattle.own_match.specs.declared.column.Column.{Column as Held}
 use Rattle.own_match.specs.Search.{Column}

@@ -2,7 +2,7 @@
 
 ghost use Rattle.std.specs.Prelude.{◌≡◌, IfOk, map};
 ghost use Rattle.own_table.specs.Table.{shape_in_table};
-ghost use Rattle.own_table.specs.Types.{shapes_of};
+ghost use Rattle.own_shapes.specs.Types.{shapes_of};
 ghost use Rattle.own_tree.specs.TypedView.{pattern_view};
 ghost use Rattle.own_match.specs.View.{said, said_all, cells_of, columns_held};
 ghost use Rattle.own_match.specs.Forms.{part, inside};

@@ -3,7 +3,7 @@
 ghost use Rattle.std.specs.Prelude.{◌≡◌, ◌≤◌, ◌++◌, IfOk, Some, map, vec_len};
 ghost use Rattle.own_tree.specs.TypedView.{pattern_view};
 ghost use Rattle.own_tree.specs.declared.place.Ty.{Ty};
-ghost use Rattle.own_table.specs.Types.{Shape};
+ghost use Rattle.own_shapes.specs.Types.{Shape};
 ghost use Rattle.own_match.specs.View.{columns_held, forms_held};
 ghost use Rattle.own_match.specs.Search.{led, gathered, any_live, gap_end};
 

@@ -4,7 +4,7 @@
 ghost use Rattle.std.specs.Prelude.{◌≡◌, true, IfOk, Some};
 ghost use Rattle.own_tree.specs.TypedView.{pattern_view};
 ghost use Rattle.own_table.specs.Table.{types_in, shape_in_table, IsTypeIn};
-ghost use Rattle.own_table.specs.Types.{shapes_of};
+ghost use Rattle.own_shapes.specs.Types.{shapes_of};
 ghost use Rattle.own_match.specs.declared.head.Head.TheVariants as head;
 ghost use Rattle.own_match.specs.First.{case_with, form_before, least_of, first_form, first_forms};
 ghost use Rattle.own_match.specs.Inhabited.{AreInhabited};

@@ -8,7 +8,7 @@ use Rattle.own_tree.specs.declared.typed.Passing.TheVariants as passing
 use Rattle.own_tree.specs.declared.typed.Target.TheVariants as target
 use Rattle.own_tree.specs.Source.{enum_of, cases}
 use Rattle.own_tree.specs.TypedSource.{bind, of_case, pat, no_pats, TExp, truth, address, call, case_of, case_where, TStm, let_in, assign, switch, return_value, clause, no_clauses, Program}
-use Rattle.own_table.specs.Types.{Types, types_declared}
+use Rattle.own_shapes.specs.Types.{Types, types_declared}
 use Rattle.own_runs.specs.Run.{Wrong, run_of}
 use Rattle.own_runs.proofs.Spelled.{answer, sp, node, at, name_at, path_at, p, i, v, exps, stms, say, has, noncopyable_struct, case_with, types_with, bound, function_body, main_body, alone}
 use Rattle.own_runs.proofs.MoreRows.{no_types}

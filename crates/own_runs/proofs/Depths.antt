@@ -2,7 +2,7 @@
 use Rattle.std.proofs.Common.{◌≡◌, ℕ, zero, suc, ◌≤◌, ◌<◌, ℤ, pos, List, [], Option, None, refl, sym, ap, subst, ◌∙◌, arith}
 use Rattle.std.specs.Prelude.{Bool, ◌+ℤ◌, int_le, slice_get}
 use Rattle.own_tree.specs.TypedSource.{Program}
-use Rattle.own_table.specs.Types.{Types}
+use Rattle.own_shapes.specs.Types.{Types}
 use Rattle.own_runs.specs.Destruction.{Passed}
 use Rattle.own_runs.specs.Loops.{Flow, onward, while_turns, repeat_turns, for_turns}
 use Rattle.own_runs.specs.Run.{behaviour, run_to, run_of, start}

@@ -5,7 +5,7 @@ use Rattle.std.proofs.lemmas.Bool.{lt-ltb, le-leb, lt-leb}
 use Rattle.std.specs.Prelude.{nat_le}
 use Rattle.std.specs.Fmt.{signed_decimal}
 use Rattle.own_tree.specs.declared.limits.TheConstants.{MOST_LEVELS}
-use Rattle.own_table.specs.Types.{types_declared}
+use Rattle.own_shapes.specs.Types.{types_declared}
 use Rattle.own_runs.specs.Destruction.{Passed, given}
 use Rattle.own_runs.specs.Events.{Item, printed, line, output_of}
 use Rattle.own_runs.specs.Run.{Outcome, Ended, Trapped, Behaviour, behaviour, output, start, run_to, run_of}

@@ -2,7 +2,7 @@
 use Rattle.std.proofs.Common.{◌≡◌, ℕ, zero, suc, ◌≤◌, ℤ, pos, List, [], ◌∷◌, ◌++◌, Option, None, inl, inr, refl, sym, ap, subst, ◌∙◌, arith, append_assoc}
 use Rattle.std.specs.Prelude.{Bool, ◌+ℤ◌, int_le, slice_get}
 use Rattle.own_tree.specs.TypedSource.{Program}
-use Rattle.own_table.specs.Types.{Types}
+use Rattle.own_shapes.specs.Types.{Types}
 use Rattle.own_runs.specs.Destruction.{Passed}
 use Rattle.own_runs.specs.Events.{Item, printed, happened, event_line, output_of, traced_output_of, events_of}
 use Rattle.own_runs.specs.Laws.{IsFront, GoesOn, IsAtFront}

@@ -3,7 +3,7 @@ use Rattle.std.proofs.Common.{ℕ, zero, suc, ℤ, pos, List, [], ◌++◌, Opti
 use Rattle.std.proofs.lemmas.List.{append-nil, append_assoc}
 use Rattle.std.specs.Prelude.{Bool, ◌+ℤ◌, int_le, slice_get}
 use Rattle.own_tree.specs.TypedSource.{Program}
-use Rattle.own_table.specs.Types.{Types}
+use Rattle.own_shapes.specs.Types.{Types}
 use Rattle.own_runs.specs.Destruction.{Passed}
 use Rattle.own_runs.specs.Events.{Item}
 use Rattle.own_runs.specs.Laws.{IsFront}

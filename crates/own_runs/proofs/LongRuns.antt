@@ -2,7 +2,7 @@
 use Rattle.std.proofs.Common.{◌≡◌, ℕ, ◌≤◌, ℤ, Bool, true, false, List, [], ◌∷◌, ◌++◌, inl, inr, refl, sym, ap, subst, ◌∙◌}
 use Rattle.std.specs.Prelude.{◌==◌, ◌≢◌, if◌then◌else◌}
 use Rattle.own_tree.specs.TypedSource.{Program}
-use Rattle.own_table.specs.Types.{Types}
+use Rattle.own_shapes.specs.Types.{Types}
 use Rattle.own_runs.specs.Events.{Event, made, used, ended_by_deinit, ended_by_discard}
 use Rattle.own_runs.specs.Laws.{GoesOn, IsOrderly}
 use Rattle.own_runs.specs.Once.{number_of, events_with, IsLived, IsLife, HasEnd, IsMade, life, IsUntouched, EndsOnce}

@@ -13,7 +13,7 @@ use Rattle.own_tree.specs.declared.typed.Passing.TheVariants as passing
 use Rattle.own_tree.specs.declared.typed.Target.TheVariants as target
 use Rattle.own_tree.specs.Source.{enum_of, cases, struct_of}
 use Rattle.own_tree.specs.TypedSource.{bind, any, of_case, pat, no_pats, TExp, truth, arithmetic, wrapping, compared, call, member, parenthesized, consumed, case_of, case_where, default, let_in, ignore, update, discard_self, if_then, if_else, loop_while, loop_repeat, loop_for, leave, go_on, switch, return_value, clause, no_clauses, TBody, Program, function, closure, choice, assign}
-use Rattle.own_table.specs.Types.{Types, types_declared}
+use Rattle.own_shapes.specs.Types.{Types, types_declared}
 use Rattle.own_runs.specs.Run.{Outcome, Ended, Trapped, Cut, behaviour, output, run_of, run_to, start}
 use Rattle.own_runs.proofs.Spelled.{answer, traced_answer, lines, sp, node, at, in_place, path_at, p, i, v, w, exps, stms, blk, do_, say, read_int, equal, has, ends, name_at, case_with, noncopyable_struct, types_with, bound, body_with, function_body, main_body, file_decl, with_file, alone, new, f, fd, file_types, local_file, local_int}
 

@@ -3,7 +3,7 @@ use Rattle.std.proofs.Common.{◌≡◌, ℕ, ◌≤◌, ◌+◌, ℤ, Bool, tru
 use Rattle.std.proofs.lemmas.Bool.Decides.{Decides-eqb}
 use Rattle.std.specs.Prelude.{◌==◌, if◌then◌else◌}
 use Rattle.std.specs.Fmt.{digits}
-use Rattle.own_table.specs.Types.{types_declared}
+use Rattle.own_shapes.specs.Types.{types_declared}
 use Rattle.own_runs.specs.Events.{Event, made, used, ended_by_deinit, ended_by_discard}
 use Rattle.own_runs.specs.Laws.{IsOrderly}
 use Rattle.own_runs.specs.Once.{IsLife, IsMade, HasEnd, events_with, IsUntouched, EndsOnce}

@@ -23,10 +23,10 @@ use Rattle.own_tree.specs.declared.typed.Target.{Target}
 use Rattle.own_tree.specs.declared.typed.Target.TheVariants as target
 use Rattle.own_tree.specs.declared.typed.TypedPath.{TypedPath}
 use Rattle.own_tree.specs.TypedSource.{TPat, any, bind, of_case, of_number, of_truth, TPats, no_pats, pat, TExp, number, text, truth, path, parenthesized, consumed, negated, inverted, arithmetic, wrapping, compared, logic, choice, member, call, address, closure, function, TExps, no_exps, exp, TWhen, case_of, case_where, default, TStm, let_in, declare, ignore, assign, update, discard_self, if_then, if_else, else_if, loop_while, loop_repeat, loop_for, switch, leave, go_on, return_none, return_value, evaluate, TStms, no_stms, stm, TClauses, no_clauses, clause, TBlk, block, TBody, Program}
-use Rattle.own_table.specs.Ops.{ended, binds_twice}
-use Rattle.own_table.specs.Types.{Types, Shape, Shapes, Payloads, no_shapes, no_payloads, payloads, one_case_holds_tracked, copyable}
-use Rattle.own_table.specs.Types as shape
-use Rattle.own_table.specs.Within.{node_of, path_of, locals}
+use Rattle.own_paths.specs.Ops.{ended, binds_twice}
+use Rattle.own_shapes.specs.Types.{Types, Shape, Shapes, Payloads, no_shapes, no_payloads, payloads, one_case_holds_tracked, copyable}
+use Rattle.own_shapes.specs.Types as shape
+use Rattle.own_paths.specs.Within.{node_of, path_of, locals}
 use Rattle.own_runs.specs.Arithmetic.{compare_truths, as_int, as_bool, as_val, compare_vals}
 use Rattle.own_runs.specs.Calls.{holder, item_bytes, slot_of, slots_of, value_given, values_given, spelled, note_use, lend, lend_all, construct, binding_at, shape_of_binding, declarer, owner_of, through, locate, take_value, closure_in, closure_of, give, text_of, lend_place, pass_borrowed, pass_receiver, pass_inout, pass_closure, pass, call_closure, apply, end_lent}
 use Rattle.own_runs.specs.Destruction.{Passed, given, lent, lent_temporary, closed, Call, present_case, run_deinit, destroy_tracked, destroy, destroy_parts, destroy_case, end_value}

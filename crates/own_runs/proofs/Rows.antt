@@ -11,7 +11,7 @@ use Rattle.own_tree.specs.declared.typed.Comparison.TheVariants as compare
 use Rattle.own_tree.specs.declared.typed.Passing.TheVariants as passing
 use Rattle.own_tree.specs.declared.typed.Target.TheVariants as target
 use Rattle.own_tree.specs.TypedSource.{arithmetic, compared, call, address, closure, let_in, ignore, assign, update, if_then, loop_while, loop_for, Program}
-use Rattle.own_table.specs.Types.{Types, types_declared}
+use Rattle.own_shapes.specs.Types.{Types, types_declared}
 use Rattle.own_runs.specs.Run.{Ended, Cut, Wrong, run_of}
 use Rattle.own_runs.proofs.Spelled.{answer, traced_answer, lines, sp, node, at, path_at, p, i, v, w, exps, blk, do_, say, read_int, equal, has, ends, noncopyable_struct, types_with, bound, body_with, function_body, main_body, file_decl, with_file, new, take_, write_, close_, f, file_types, local_file, local_int}
 

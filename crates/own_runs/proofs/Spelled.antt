@@ -21,7 +21,7 @@ use Rattle.own_tree.specs.declared.typed.Target.TheVariants as target
 use Rattle.own_tree.specs.declared.typed.TypedPath.{TypedPath}
 use Rattle.own_tree.specs.Source.{Member, Decl, struct_of, field, deinitializer, no_stms as parsed_nothing, Blk as ParsedBlock, block as parsed_block}
 use Rattle.own_tree.specs.TypedSource.{TExp, number, text, path, compared, call, TExps, no_exps, exp, TStm, assign, discard_self, evaluate, TStms, no_stms, stm, TBlk, block, TBody, Program}
-use Rattle.own_table.specs.Types.{Types, declared_types, types_declared}
+use Rattle.own_shapes.specs.Types.{Types, declared_types, types_declared}
 use Rattle.own_runs.specs.Run.{Outcome, output, traced_output, run_of}
 
 -- ---- answers

@@ -11,8 +11,8 @@ use Rattle.own_tree.specs.declared.typed.Target.{Target}
 use Rattle.own_tree.specs.declared.typed.Target.TheVariants as target
 use Rattle.own_tree.specs.declared.typed.TypedPath.{TypedPath}
 use Rattle.own_tree.specs.TypedSource.{TExp, text, parenthesized, address, closure, function, Program}
-use Rattle.own_table.specs.Types.{Types, Shape, is_copyable, tracked}
-use Rattle.own_table.specs.Within.{node_of, path_of}
+use Rattle.own_shapes.specs.Types.{Types, Shape, is_copyable, tracked}
+use Rattle.own_paths.specs.Within.{node_of, path_of}
 use Rattle.own_runs.specs.Destruction.{Passed, given, lent, lent_temporary, closed, Call, end_value}
 use Rattle.own_runs.specs.Events.{used}
 use Rattle.own_runs.specs.Store.{binding, Location, Slot, absent, holds, refers, runs, Act, activation, with_at, slot_at, read, move, below, hold, note, born, read_input}

@@ -3,8 +3,8 @@ use Rattle.std.specs.Prelude.{ℕ, zero, suc, ◌+◌, Bool, true, false, ◌==�
 use Rattle.own_tree.specs.declared.typed.BodyKind.{BodyKind}
 use Rattle.own_tree.specs.declared.typed.BodyKind.TheVariants as kind
 use Rattle.own_tree.specs.TypedSource.{TBody, Program}
-use Rattle.own_table.specs.Types.{Shape, Shapes, Payloads, no_shapes, no_payloads, payloads, one_case_holds_tracked}
-use Rattle.own_table.specs.Types as shape
+use Rattle.own_shapes.specs.Types.{Shape, Shapes, Payloads, no_shapes, no_payloads, payloads, one_case_holds_tracked}
+use Rattle.own_shapes.specs.Types as shape
 use Rattle.own_runs.specs.Events.{ended_by_deinit}
 use Rattle.own_runs.specs.Store.{Location, Act, peek, put, vacate, below, take_level, note}
 use Rattle.own_runs.specs.Values.{Val, int, bool, unit, struct, variant, hole, all_whole, Part, field, payload}

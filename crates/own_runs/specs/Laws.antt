@@ -1,7 +1,7 @@
 -- What is proved of the definitions, for contracts to cite.
 use Rattle.std.specs.Prelude.{◌≡◌, ◌≢◌, ℕ, suc, ◌≤◌, ◌<◌, ℤ, ◌⊎◌, List, [], ◌∷◌, ◌++◌, None}
 use Rattle.own_tree.specs.TypedSource.{Program}
-use Rattle.own_table.specs.Types.{Types}
+use Rattle.own_shapes.specs.Types.{Types}
 use Rattle.own_runs.specs.Once.{life, IsLife, IsMade, HasEnd, IsUntouched, EndsOnce}
 use Rattle.own_runs.specs.Run.{Behaviour, Ended, Cut, Wrong, output, traced_output, events, behaviour, run_to, start, run_of}
 use Rattle.own_runs.specs.Store.{State}

@@ -1,7 +1,7 @@
 -- What an accepted program promises of its runs: it touches no hole, and each tracked value ends once.
 use Rattle.std.specs.Prelude.{◌≡◌, ◌≢◌, ℕ, ℤ, ◌==◌, if◌then◌else◌, List, [], ◌∷◌}
 use Rattle.own_tree.specs.TypedSource.{Program}
-use Rattle.own_table.specs.Types.{Types}
+use Rattle.own_shapes.specs.Types.{Types}
 use Rattle.own_runs.specs.Events.{Event, made, used, ended_by_deinit, ended_by_discard}
 use Rattle.own_runs.specs.Run.{Ended, Wrong, events, run_of}
 

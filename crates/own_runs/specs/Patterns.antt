@@ -1,8 +1,8 @@
 -- Which clause of a `switch` is taken, and what its pattern binds and leaves (SE-0432).
 use Rattle.std.specs.Prelude.{ℕ, zero, suc, Bool, true, false, ◌==◌, List, [], ◌∷◌, ◌++◌, Option, Some, None}
 use Rattle.own_tree.specs.TypedSource.{TPat, any, bind, of_case, of_number, of_truth, TPats, no_pats, pat, TWhen, case_of, case_where, default, Program}
-use Rattle.own_table.specs.Types.{Shape, Shapes, Payloads, no_shapes, no_payloads, payloads}
-use Rattle.own_table.specs.Types as shape
+use Rattle.own_shapes.specs.Types.{Shape, Shapes, Payloads, no_shapes, no_payloads, payloads}
+use Rattle.own_shapes.specs.Types as shape
 use Rattle.own_runs.specs.Arithmetic.{same_truth}
 use Rattle.own_runs.specs.Destruction.{Call, end_value}
 use Rattle.own_runs.specs.Store.{Location, Act, below}

@@ -14,9 +14,9 @@ use Rattle.own_tree.specs.declared.typed.Passing.{Passing}
 use Rattle.own_tree.specs.declared.typed.Target.TheVariants as target
 use Rattle.own_tree.specs.declared.typed.TypedPath.{TypedPath}
 use Rattle.own_tree.specs.TypedSource.{TPat, TExp, number, text, truth, path, parenthesized, consumed, negated, inverted, arithmetic, wrapping, compared, logic, choice, member, call, address, closure, function, TExps, no_exps, exp, TWhen, case_of, case_where, default, TStm, let_in, declare, ignore, assign, update, discard_self, if_then, if_else, else_if, loop_while, loop_repeat, loop_for, switch, leave, go_on, return_none, return_value, evaluate, TStms, no_stms, stm, TClauses, no_clauses, clause, TBlk, block, TBody, Program}
-use Rattle.own_table.specs.Ops.{ended, has_result, binds_twice}
-use Rattle.own_table.specs.Types.{Types, is_copyable, tracked}
-use Rattle.own_table.specs.Within.{node_of, path_of, pattern_bindings, patterns_bindings, locals}
+use Rattle.own_paths.specs.Ops.{ended, has_result, binds_twice}
+use Rattle.own_shapes.specs.Types.{Types, is_copyable, tracked}
+use Rattle.own_paths.specs.Within.{node_of, path_of, pattern_bindings, patterns_bindings, locals}
 use Rattle.own_runs.specs.Arithmetic.{as_int, as_bool, as_val, compare_vals}
 use Rattle.own_runs.specs.Calls.{holder, item_bytes, text_of, spaced, slots_of, lend_all, construct, binding_at, shape_of_binding, locate, take_value, pass, apply, end_lent}
 use Rattle.own_runs.specs.Destruction.{Passed, Call, end_value}

@@ -1,7 +1,7 @@
 -- Value trees with holes, and what stands where in one.
 use Rattle.std.specs.Prelude.{ℕ, zero, suc, ℤ, Bool, true, false, ◌&&◌, ◌==◌, List, [], ◌∷◌, Option, Some, None, if◌then◌else◌}
-use Rattle.own_table.specs.Types.{TypeHead, Shape, Shapes, no_shapes}
-use Rattle.own_table.specs.Types as shape
+use Rattle.own_shapes.specs.Types.{TypeHead, Shape, Shapes, no_shapes}
+use Rattle.own_shapes.specs.Types as shape
 
 -- A tracked value has its number, from 1 in order of birth; a struct that is not tracked has none, nor has `self` in
 -- an `init`. A hole is where a value is not yet or no more.

@@ -6,15 +6,14 @@ use Rattle.std.proofs.lemmas.Bool.Decides.{eqb_tells}
 use Rattle.std.proofs.lemmas.List.Elements.{Contains-push}
 use Rattle.std.proofs.lemmas.Option.{slice_get_read}
 use Rattle.own_tree.specs.declared.place.Ty.TheVariants as type
-use Rattle.own_table.specs.declared.info.TypeInfo.{TypeInfo}
+use Rattle.own_shapes.specs.declared.info.TypeInfo.{TypeInfo}
 use Rattle.own_table.specs.declared.mark.Mark.{Mark}
 use Rattle.own_table.specs.declared.mark.Mark.TheVariants as mark
 use Rattle.own_table.specs.declared.order.Settling.{Settling}
 use Rattle.own_table.specs.Order.{HasPart, IsSettling, KeepsMarks, first_unsettled, work_left, IsPath}
 use Rattle.own_table.specs.Settling.{Settles, SettlesWith, IsOpened, IsOpenedBelow, IsSettledAs, Keeps, work_of, work_with}
-use Rattle.own_table.specs.Types.{contained, is_part, ContainsIn, PartsAreTypes}
-use Rattle.own_table.proofs.ByIndex.{set_same, set_other}
-use Rattle.own_table.proofs.Members.{contains_in}
+use Rattle.own_shapes.specs.Types.{contained, is_part, ContainsIn, PartsAreTypes}
+use Rattle.own_shapes.proofs.Lists.{set_same, set_other, contains_in}
 use Rattle.own_table.proofs.Settled.{opened, settled, circle, one_unsettled, path_longer, count_new-open, count_new-settle}
 use Rattle.own_table.proofs.Whole.{all_in}
 

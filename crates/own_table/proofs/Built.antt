@@ -7,47 +7,40 @@ use Rattle.std.proofs.lemmas.Bool.{lt-ltb, ltb-false}
 use Rattle.std.proofs.lemmas.List.{length-map}
 use Rattle.std.proofs.lemmas.Option.{slice_get_within}
 use Rattle.std.proofs.lemmas.List.Elements.{All-nil, All-cons}
-use Rattle.std.proofs.lemmas.List.Folds.{list_all-append}
 use Rattle.own_tree.specs.declared.limits.TheConstants.{MOST_FIELDS, MOST_PARAMETERS}
 use Rattle.own_tree.specs.declared.place.Ty.{Ty}
 use Rattle.own_tree.specs.declared.refusal.LimitKind.{LimitKind}
 use Rattle.own_tree.specs.declared.refusal.LimitKind.TheVariants as limit
 use Rattle.own_tree.specs.declared.span.Span.{Span}
 use Rattle.own_tree.specs.declared.tree.CaseItem.{CaseItem}
-use Rattle.own_tree.specs.declared.tree.Declaration.{Declaration}
-use Rattle.own_tree.specs.declared.tree.Declaration.TheVariants as declaration
-use Rattle.own_tree.specs.declared.tree.Field.{Field}
 use Rattle.own_tree.specs.declared.tree.Name.{Name}
 use Rattle.own_tree.specs.declared.tree.Tree.{Tree}
 use Rattle.own_tree.specs.Source.{File}
-use Rattle.own_tree.specs.View.{declaration_view, tree_view}
+use Rattle.own_tree.specs.View.{tree_view}
 use Rattle.own_table.specs.declared.error.TableError.TheVariants as refused
 use Rattle.own_table.specs.declared.extent.Over.{Over}
-use Rattle.own_table.specs.declared.info.TypeInfo.{TypeInfo}
-use Rattle.own_table.specs.declared.survey.Counted.{Counted}
-use Rattle.own_table.specs.declared.survey.Fault.{Fault}
-use Rattle.own_table.specs.declared.survey.Judgement.TheVariants as judgement
-use Rattle.own_table.specs.declared.survey.Survey.{Survey}
-use Rattle.own_table.specs.declared.survey.Written.{Written}
-use Rattle.own_table.specs.declared.survey.Written.TheVariants as written
+use Rattle.own_shapes.specs.declared.info.TypeInfo.{TypeInfo}
+use Rattle.own_shapes.specs.declared.counted.Counted.{Counted}
+use Rattle.own_survey.specs.declared.survey.Fault.{Fault}
+use Rattle.own_survey.specs.declared.survey.Judgement.TheVariants as judgement
+use Rattle.own_survey.specs.declared.survey.Survey.{Survey}
+use Rattle.own_survey.specs.declared.survey.Written.{Written}
+use Rattle.own_survey.specs.declared.survey.Written.TheVariants as written
 use Rattle.own_table.specs.Building.{or_limit, first_limit, IsJudged, HasTable, IsRefused, TablesAreExact, extra_body, limit_found, IsSurveyed}
 use Rattle.own_table.specs.Extents.{HasFewParts, HaveFewParts, over_at, beyond_M8, counted_at, first_over_from, first_over_M8}
-use Rattle.own_table.specs.Judgements.{code_of, declared_as_written, written_name, type_fault, fault_of, nothing, notes, IsFalseOf}
-use Rattle.own_table.specs.Limits.{counted, first_over, type_names, part_counts, taken_count, body_places, taken_counts, over_M4, over_M5, over_M6, over_M7, over_M8}
-use Rattle.own_table.specs.Parts.{Part, a_case, a_type, file_parts}
+use Rattle.own_survey.specs.Judgements.{code_of, declared_as_written, written_name, type_fault, fault_of, nothing, notes, IsFalseOf}
+use Rattle.own_shapes.specs.Counts.{counted, first_over}
+use Rattle.own_survey.specs.Limits.{type_names, part_counts, taken_count, body_places, taken_counts, over_M4, over_M5, over_M6, over_M7, over_M8}
+use Rattle.own_survey.specs.Parts.{Part, a_case, a_type, file_parts}
 use Rattle.own_table.specs.TypeLimits.{at_name, at_span, counts_of}
-use Rattle.own_table.specs.Types.{Types, Declared, declared_types, type_number, written_type, resolved_field, resolved_case, resolved, resolved_types, field_types, all_case_types, contained, is_part, types_resolved, types_declared, types_of, PartsAreTypes, ContainsIn, NoneContainsItself}
-use Rattle.own_table.proofs.ByIndex.{get_in}
-use Rattle.own_table.proofs.Judged.{fault_is_false, nothing_is_false, taken_is, bodies_are, bodies_fit, extra_is}
-use Rattle.own_table.proofs.Members.{In, contains_in}
-use Rattle.own_table.proofs.Numbered.{turned}
-use Rattle.own_table.proofs.PartsIn.{text_field, text_case, text_payload}
-use Rattle.own_table.proofs.Resolved.{enum_fields}
+use Rattle.own_shapes.specs.Types.{Types, Declared, declared_types, type_number, written_type, resolved_field, resolved_case, resolved, resolved_types, field_types, all_case_types, contained, is_part, types_resolved, types_declared, types_of, PartsAreTypes, ContainsIn, NoneContainsItself}
+use Rattle.own_shapes.proofs.Lists.{get_in, In, contains_in}
+use Rattle.own_survey.proofs.Judged.{fault_is_false, nothing_is_false, taken_is, bodies_are, bodies_fit, extra_is}
+use Rattle.own_survey.proofs.Numbered.{turned}
+use Rattle.own_survey.proofs.PartsIn.{text_field, text_case, text_payload}
+use Rattle.own_table.specs.Proper.{AreProper}
+use Rattle.own_table.proofs.Held.{all_parts, mapped, no_cases, no_properties, held_proper}
 use Rattle.own_table.proofs.TypeLimited.{counts_same, first_over_is, length-type_names}
-
-both_true : (a b : Bool) → a ≡ true → b ≡ true → (a && b) ≡ true
-both_true true b e f = f
-both_true false b e f = e
 
 -- ---- names that name types
 
@@ -80,27 +73,6 @@ no_fault_known written.Noncopyable at e u = absurd cc
 
 -- ---- the parts of each type
 
-all_fields : (n : ℕ) (type_of : List ℕ → Ty) (fs : List Field) → ((f : Field) → In fs f → is_part n (type_of f.written.text) ≡ true) → list_all (is_part n) (field_types (map (resolved_field type_of) fs)) ≡ true
-all_fields n type_of [] each = refl
-all_fields n type_of (f ∷ fs) each = both_true (is_part n (type_of f.written.text)) (list_all (is_part n) (field_types (map (resolved_field type_of) fs))) (each f (inl refl)) (all_fields n type_of fs (λ g i. each g (inr i)))
-
-all_names : (n : ℕ) (type_of : List ℕ → Ty) (ns : List Name) → ((m : Name) → In ns m → is_part n (type_of m.text) ≡ true) → list_all (is_part n) (map (λ m. type_of m.text) ns) ≡ true
-all_names n type_of [] each = refl
-all_names n type_of (m ∷ ns) each = both_true (is_part n (type_of m.text)) (list_all (is_part n) (map (λ x. type_of x.text) ns)) (each m (inl refl)) (all_names n type_of ns (λ g i. each g (inr i)))
-
-all_payloads : (n : ℕ) (type_of : List ℕ → Ty) (cs : List CaseItem) → ((c : CaseItem) (m : Name) → In cs c → In c.payloads m → is_part n (type_of m.text) ≡ true)
-    → list_all (is_part n) (all_case_types (map (resolved_case type_of) cs)) ≡ true
-all_payloads n type_of [] each = refl
-all_payloads n type_of (c ∷ cs) each =
-    let here = map (λ m. type_of m.text) c.payloads in let later = all_case_types (map (resolved_case type_of) cs) in
-    list_all-append (is_part n) here later
-    ∙ both_true (list_all (is_part n) here) (list_all (is_part n) later) (all_names n type_of c.payloads (λ m i. each c m (inl refl) i)) (all_payloads n type_of cs (λ d m i j. each d m (inr i) j))
-
-mapped : {A B : Type 0} (f : A → B) (xs : List A) (y : B) → In (map f xs) y → (x : A) × In xs x × (f x ≡ y)
-mapped f [] y i = absurd i
-mapped f (x ∷ xs) y (inl e) = (x, inl refl, e)
-mapped f (x ∷ xs) y (inr i) = let more = mapped f xs y i in (more.0, inr more.1, more.2)
-
 -- A text of which T01 holds has types that are made of types.
 module _ (file : File) (hold : (p : Part) → In (file_parts file) p → fault_of (written_name (declared_types file.declarations)) p ≡ None) where
   abbrev ds : List Declared
@@ -109,15 +81,16 @@ module _ (file : File) (hold : (p : Part) → In (file_parts file) p → fault_o
   of_name : (n : Name) → In (file_parts file) (a_type n) → is_part (length ds) (written_type ds n.text) ≡ true
   of_name n i = known_part ds n.text (no_fault_known (written_name ds n.text) n.span (hold (a_type n) i))
 
-  parts_of : (d : Declared) → In ds d → (b : Bool)
-      → list_all (is_part (length ds)) (if b then all_case_types (map (resolved_case (written_type ds)) d.cases) else field_types (map (resolved_field (written_type ds)) d.fields)) ≡ true
-  parts_of d i true = all_payloads (length ds) (written_type ds) d.cases (λ c n j k. of_name n (text_payload file d i c n j k))
-  parts_of d i false = all_fields (length ds) (written_type ds) d.fields (λ f j. of_name f.written (text_field file d i f j))
+  parts_of : (d : Declared) → In ds d
+      → list_all (is_part (length ds)) (if d.is_enum then all_case_types (map (resolved_case (written_type ds)) d.cases) else field_types (map (resolved_field (written_type ds)) d.fields)) ≡ true
+  parts_of d i =
+      all_parts (is_part (length ds)) (written_type ds) d.is_enum d.fields d.cases
+      (λ f j. of_name f.written (text_field file d i f j)) (λ c n j k. of_name n (text_payload file d i c n j k))
 
   pub held_closed : PartsAreTypes (resolved_types ds)
   held_closed k t at =
       let one = mapped (resolved ds) ds t (get_in (resolved_types ds) k t at) in
-      rw (length-map ds (resolved ds)) (subst (λ x. list_all (is_part (length ds)) (contained x) ≡ true) one.2 (parts_of one.0 one.1 one.0.is_enum))
+      rw (length-map ds (resolved ds)) (subst (λ x. list_all (is_part (length ds)) (contained x) ≡ true) one.2 (parts_of one.0 one.1))
 
 -- ---- M5 and M7
 
@@ -149,15 +122,6 @@ type_within (x ∷ ds) d e (inl is) =
     (one_within MOST_FIELDS (counted (if x.is_enum then length x.cases else length x.fields) x.name.span) (part_counts ds) e).0
 type_within (x ∷ ds) d e (inr i) = type_within ds d (one_within MOST_FIELDS (counted (if x.is_enum then length x.cases else length x.fields) x.name.span) (part_counts ds) e).1 i
 
--- an enum of a tree has no properties
-no_properties : (xs : List Declaration) (d : Declared) → In (declared_types (map declaration_view xs)) d → d.is_enum ≡ true → d.fields ≡ []
-no_properties [] d i e = absurd i
-no_properties (declaration.Struct s ∷ xs) d (inl is) e = absurd (let f : false ≡ true = ap (λ x. x.is_enum) is ∙ e in cc)
-no_properties (declaration.Struct s ∷ xs) d (inr i) e = no_properties xs d i e
-no_properties (declaration.Enum s ∷ xs) d (inl is) e = sym (ap (λ x. x.fields) is) ∙ enum_fields s.members
-no_properties (declaration.Enum s ∷ xs) d (inr i) e = no_properties xs d i e
-no_properties (declaration.Function f ∷ xs) d i e = no_properties xs d i e
-
 module _ (tree : Tree) (parts : over_M5 (tree_view tree) ≡ None) (taken : over_M7 (tree_view tree) ≡ None) where
   abbrev types : List Declared
   types = declared_types (tree_view tree).declarations
@@ -168,6 +132,13 @@ module _ (tree : Tree) (parts : over_M5 (tree_view tree) ≡ None) (taken : over
       by : (b : Bool) → d.is_enum ≡ b → (if b then length d.cases else length d.fields) ≤ MOST_FIELDS → length d.fields ≤ MOST_FIELDS
       by true is small = let none = ap length (no_properties tree.declarations d i is) in omega (arith, none)
       by false is small = small
+
+  few_cases : (d : Declared) → In types d → length d.cases ≤ MOST_FIELDS
+  few_cases d i = by d.is_enum refl (type_within types d parts i)
+    where
+      by : (b : Bool) → d.is_enum ≡ b → (if b then length d.cases else length d.fields) ≤ MOST_FIELDS → length d.cases ≤ MOST_FIELDS
+      by true is small = small
+      by false is small = let none = ap length (no_cases tree.declarations d i is) in omega (arith, none)
 
   cases_within : (d : Declared) → In types d → (cs : List CaseItem) → ((c : CaseItem) → In cs c → In d.cases c) → All (λ c. length c.payloads ≤ MOST_PARAMETERS) (map (resolved_case (written_type types)) cs)
   cases_within d i [] each = All-nil (λ c. length c.payloads ≤ MOST_PARAMETERS)
@@ -183,6 +154,7 @@ module _ (tree : Tree) (parts : over_M5 (tree_view tree) ≡ None) (taken : over
       All-cons HasFewParts (resolved types d) (map (resolved types) rest)
       (record {
         fields = rw (length-map d.fields (resolved_field (written_type types))) (fields_within d (each d (inl refl)));
+        cases = rw (length-map d.cases (resolved_case (written_type types))) (few_cases d (each d (inl refl)));
         payloads = cases_within d (each d (inl refl)) d.cases (λ c j. j);
       })
       (each_few rest (λ x j. each x (inr j)))
@@ -240,6 +212,9 @@ module _ (tree : Tree) (is : IsSurveyed (tree_view tree)) where
 
   pub surveyed_closed : PartsAreTypes (resolved_types (declared_types (tree_view tree).declarations))
   surveyed_closed = held_closed (tree_view tree) no_fault
+
+  pub surveyed_proper : AreProper (resolved_types (declared_types (tree_view tree).declarations))
+  surveyed_proper = held_proper tree no_fault
 
   pub surveyed_few : HaveFewParts (resolved_types (declared_types (tree_view tree).declarations))
   surveyed_few =

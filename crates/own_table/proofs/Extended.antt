@@ -9,17 +9,16 @@ use Rattle.std.proofs.lemmas.Option.{slice_get_read, slice_get_within}
 use Rattle.own_tree.specs.declared.limits.TheConstants.{MOST_TYPE_SLOTS}
 use Rattle.own_tree.specs.declared.place.Ty.{Ty}
 use Rattle.own_tree.specs.declared.place.Ty.TheVariants as type
-use Rattle.own_table.specs.declared.info.CaseInfo.{CaseInfo}
-use Rattle.own_table.specs.declared.info.FieldInfo.{FieldInfo}
-use Rattle.own_table.specs.declared.info.TypeInfo.{TypeInfo}
-use Rattle.own_table.specs.Extents.{within_M8, AreKnown, IsSmall, known_at, part_slots, plus, larger, sum_of_parts, most_of_cases, is_nil, slots_by_parts, kept_within, beyond_M8, over_at, counted_at, first_over_from, first_over_M8}
-use Rattle.own_table.specs.Limits.{are_within}
+use Rattle.own_shapes.specs.declared.info.CaseInfo.{CaseInfo}
+use Rattle.own_shapes.specs.declared.info.FieldInfo.{FieldInfo}
+use Rattle.own_shapes.specs.declared.info.TypeInfo.{TypeInfo}
+use Rattle.own_table.specs.Extents.{within_M8, AreKnown, IsSmall, known_at, part_slots, plus, larger, sum_of_parts, most_of_cases, slots_by_parts, kept_within, beyond_M8, over_at, counted_at, first_over_from, first_over_M8}
+use Rattle.own_shapes.specs.Types.{is_empty, Types, struct, enum, is_none, slots, all_slots, most_slots, one_if, shapes_of, payloads_of, field_types, case_types, all_case_types, contained, head_of, declared_shape, is_part, types_resolved, NoneContainsItself, PartsAreTypes}
+use Rattle.own_survey.specs.Limits.{are_within}
 use Rattle.own_table.specs.Order.{IsContainmentOrder}
-use Rattle.own_table.specs.Types.{Types, struct, enum, is_none, slots, all_slots, most_slots, one_if, shapes_of, payloads_of, field_types, case_types, all_case_types, contained, head_of, declared_shape, is_part, types_resolved, NoneContainsItself, PartsAreTypes}
-use Rattle.own_table.proofs.ByIndex.{set_same, set_other, contains_get}
-use Rattle.own_table.proofs.Members.{In, in_front, in_back, contains_in}
+use Rattle.own_shapes.proofs.Lists.{set_same, set_other, contains_get, In, in_front, in_back, contains_in}
 use Rattle.own_table.proofs.Settled.{order_apart}
-use Rattle.own_table.proofs.Unfolding.{shapes_unfold}
+use Rattle.own_shapes.proofs.Unfolding.{shapes_unfold}
 use Rattle.own_table.proofs.Whole.{got, all_in}
 
 abbrev only_if : {A : Type 0} → Bool → A → Option A
@@ -70,7 +69,7 @@ module _ (types : Types) (known : List (Option ℕ)) where
   plus_some true m n = refl
   plus_some false m n = refl
 
-  nil_none : (fs : List FieldInfo) → is_nil fs ≡ is_none (shapes_of types.shape (field_types fs))
+  nil_none : (fs : List FieldInfo) → is_empty fs ≡ is_none (shapes_of types.shape (field_types fs))
   nil_none [] = refl
   nil_none (f ∷ fs) = refl
 
@@ -81,7 +80,7 @@ module _ (types : Types) (known : List (Option ℕ)) where
       by_parts : Bool → Option ℕ
       by_parts b =
           if b then plus (Some 1) (most_of_cases known t.cases)
-          else plus (Some (one_if (t.has_deinit || is_nil t.fields))) (sum_of_parts known (field_types t.fields))
+          else plus (Some (one_if (t.has_deinit || is_empty t.fields))) (sum_of_parts known (field_types t.fields))
 
       by_shape : Bool → Option ℕ
       by_shape b =
@@ -99,8 +98,8 @@ module _ (types : Types) (known : List (Option ℕ)) where
           ∙ sym (ap by_shape e)
       by_kind false e =
           ap by_parts e
-          ∙ ap (plus (Some (one_if (t.has_deinit || is_nil t.fields)))) (sum_right (field_types t.fields) (parts false e))
-          ∙ plus_some (are_within types MOST_TYPE_SLOTS (field_types t.fields)) (one_if (t.has_deinit || is_nil t.fields)) (all_slots (shapes_of types.shape (field_types t.fields)))
+          ∙ ap (plus (Some (one_if (t.has_deinit || is_empty t.fields)))) (sum_right (field_types t.fields) (parts false e))
+          ∙ plus_some (are_within types MOST_TYPE_SLOTS (field_types t.fields)) (one_if (t.has_deinit || is_empty t.fields)) (all_slots (shapes_of types.shape (field_types t.fields)))
           ∙ ap (λ b. only_if (are_within types MOST_TYPE_SLOTS (field_types t.fields)) (one_if (t.has_deinit || b) + all_slots (shapes_of types.shape (field_types t.fields)))) (nil_none t.fields)
           ∙ sym (ap by_shape e)
 

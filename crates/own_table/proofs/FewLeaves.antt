@@ -5,14 +5,13 @@ use Rattle.std.proofs.lemmas.List.{length-map}
 use Rattle.own_tree.specs.declared.limits.TheConstants.{MOST_TYPE_SLOTS}
 use Rattle.own_tree.specs.declared.place.Ty.{Ty}
 use Rattle.own_tree.specs.declared.place.Ty.TheVariants as type
-use Rattle.own_table.specs.declared.info.TypeInfo.{TypeInfo}
+use Rattle.own_shapes.specs.declared.info.TypeInfo.{TypeInfo}
 use Rattle.own_table.specs.Measures.{AreWithin}
 use Rattle.own_table.specs.Order.{IsContainmentOrder}
-use Rattle.own_table.specs.Types.{Shape, struct, enum, is_none, slots, all_slots, leaves, leaves_from, one_if, shapes_of, payloads_of, field_types, case_types, all_case_types, contained, head_of, is_part, declared_shape, types_resolved, PartsAreTypes}
-use Rattle.own_table.proofs.ByIndex.{contains_get}
-use Rattle.own_table.proofs.Members.{In, contains_in}
+use Rattle.own_shapes.specs.Types.{Shape, struct, enum, is_none, slots, all_slots, leaves, leaves_from, one_if, shapes_of, payloads_of, field_types, case_types, all_case_types, contained, head_of, is_part, declared_shape, types_resolved, PartsAreTypes}
+use Rattle.own_shapes.proofs.Lists.{contains_get, In, contains_in}
 use Rattle.own_table.proofs.Settled.{order_apart}
-use Rattle.own_table.proofs.Unfolding.{shapes_unfold}
+use Rattle.own_shapes.proofs.Unfolding.{shapes_unfold}
 use Rattle.own_table.proofs.Whole.{got, all_in}
 
 record IsFit (s : Shape) : Type 0 where

@@ -10,13 +10,13 @@ use Rattle.own_tree.specs.declared.tree.StructMember.{StructMember}
 use Rattle.own_tree.specs.declared.tree.StructMember.TheVariants as struct_member
 use Rattle.own_tree.specs.Source.{Decl, Member, field, initializer, deinitializer, method, cases}
 use Rattle.own_tree.specs.View.{declaration_view, enum_member_view, struct_member_view}
-use Rattle.own_table.specs.declared.info.CaseInfo.{CaseInfo}
-use Rattle.own_table.specs.declared.info.FieldInfo.{FieldInfo}
-use Rattle.own_table.specs.declared.info.TypeInfo.{TypeInfo}
-use Rattle.own_table.specs.Numbers.{Numbers, IsNumbering, written_by}
+use Rattle.own_shapes.specs.declared.info.CaseInfo.{CaseInfo}
+use Rattle.own_shapes.specs.declared.info.FieldInfo.{FieldInfo}
+use Rattle.own_shapes.specs.declared.info.TypeInfo.{TypeInfo}
+use Rattle.own_survey.specs.Numbers.{Numbers, IsNumbering, written_by}
 use Rattle.own_table.specs.Resolving.{member_fields, member_cases, declared_infos, is_deinitializer}
-use Rattle.own_table.specs.Types.{declared_types, fields_of, cases_of, has_deinit, written_type, resolved_field, resolved_case, resolved_by, resolved_types}
-use Rattle.own_table.proofs.Numbered.{declared_types-append, written_same}
+use Rattle.own_shapes.specs.Types.{declared_types, fields_of, cases_of, has_deinit, written_type, resolved_field, resolved_case, resolved_by, resolved_types}
+use Rattle.own_survey.proofs.Numbered.{declared_types-append, written_same}
 
 pub more_of : {X Y : Type 0} (F : List X → List Y) → ((xs ys : List X) → F (xs ++ ys) ≡ F xs ++ F ys) → (xs : List X) (i : ℕ) (x : X) → i < length xs → x ≡ get_or xs i x
     → F (take (i + 1) xs) ≡ F (take i xs) ++ F (x ∷ [])

@@ -7,14 +7,13 @@ use Rattle.std.proofs.lemmas.Option.{slice_get_within}
 use Rattle.std.proofs.lemmas.List.{at_drop_more}
 use Rattle.own_tree.specs.declared.place.Ty.{Ty}
 use Rattle.own_tree.specs.declared.place.Ty.TheVariants as type
-use Rattle.own_table.specs.declared.info.CaseInfo.{CaseInfo}
-use Rattle.own_table.specs.declared.info.TypeInfo.{TypeInfo}
+use Rattle.own_shapes.specs.declared.info.CaseInfo.{CaseInfo}
+use Rattle.own_shapes.specs.declared.info.TypeInfo.{TypeInfo}
 use Rattle.own_table.specs.declared.mark.Mark.{Mark}
 use Rattle.own_table.specs.declared.mark.Mark.TheVariants as mark
 use Rattle.own_table.specs.Order.{HasPart, ComeAfterParts, IsContainmentOrder, unless_settled, unsettled, first_of, first_unsettled, LeadsTo, IsPath, IsSettling, one_new, count_new}
-use Rattle.own_table.specs.Types.{all_case_types, contained, ContainsIn, NoneContainsItself}
-use Rattle.own_table.proofs.Members.{In, in_contains}
-use Rattle.own_table.proofs.ByIndex.{set_same, set_other, get_front, get_push_cases, contains_get}
+use Rattle.own_shapes.specs.Types.{all_case_types, contained, ContainsIn, NoneContainsItself}
+use Rattle.own_shapes.proofs.Lists.{In, in_contains, set_same, set_other, get_front, get_push_cases, contains_get}
 use Rattle.own_table.proofs.Whole.{got}
 
 -- ---- the first part that is not settled

@@ -6,13 +6,14 @@ use Rattle.own_tree.specs.declared.span.Span.{Span}
 use Rattle.own_tree.specs.Source.{File}
 use Rattle.own_table.specs.declared.error.TableError.{TableError}
 use Rattle.own_table.specs.declared.error.TableError.TheVariants as refused
-use Rattle.own_table.specs.declared.survey.Counted.{Counted}
-use Rattle.own_table.specs.declared.survey.Fault.{Fault}
-use Rattle.own_table.specs.declared.survey.Judgement.TheVariants as judgement
-use Rattle.own_table.specs.declared.survey.Survey.{Survey}
-use Rattle.own_table.specs.Judgements.{code_of, IsFalseOf}
-use Rattle.own_table.specs.Limits.{counted, type_names, over_M4, over_M5, over_M6, over_M7, over_M8}
-use Rattle.own_table.specs.Types.{declared_types, resolved_types, types_of, ContainsIn}
+use Rattle.own_shapes.specs.declared.counted.Counted.{Counted}
+use Rattle.own_survey.specs.declared.survey.Fault.{Fault}
+use Rattle.own_survey.specs.declared.survey.Judgement.TheVariants as judgement
+use Rattle.own_survey.specs.declared.survey.Survey.{Survey}
+use Rattle.own_survey.specs.Judgements.{code_of, IsFalseOf}
+use Rattle.own_shapes.specs.Counts.{counted}
+use Rattle.own_survey.specs.Limits.{type_names, over_M4, over_M5, over_M6, over_M7, over_M8}
+use Rattle.own_shapes.specs.Types.{declared_types, resolved_types, types_of, ContainsIn}
 
 -- T03 is false of a type, at its name.
 pub record IsCircular (file : File) (f : Fault) : Type 0 where

@@ -3,15 +3,16 @@ use Rattle.std.specs.Prelude.{◌≡◌, ℕ, suc, ◌+◌, ◌<◌, ◌≤◌, 
 use Rattle.own_tree.specs.declared.limits.TheConstants.{MOST_FIELDS, MOST_PARAMETERS, MOST_TYPE_SLOTS}
 use Rattle.own_tree.specs.declared.place.Ty.{Ty}
 use Rattle.own_tree.specs.declared.place.Ty.TheVariants as type
-use Rattle.own_table.specs.declared.info.CaseInfo.{CaseInfo}
-use Rattle.own_table.specs.declared.info.TypeInfo.{TypeInfo}
+use Rattle.own_shapes.specs.declared.info.CaseInfo.{CaseInfo}
+use Rattle.own_shapes.specs.declared.info.TypeInfo.{TypeInfo}
 use Rattle.own_table.specs.declared.extent.Over.{Over}
-use Rattle.own_table.specs.Limits.{are_within}
-use Rattle.own_table.specs.Types.{Types, slots, one_if, contained, field_types, types_resolved}
+use Rattle.own_survey.specs.Limits.{are_within}
+use Rattle.own_shapes.specs.Types.{is_empty, Types, slots, one_if, contained, field_types, types_resolved}
 
 -- within M5 and M7
 pub record HasFewParts (t : TypeInfo) : Type 0 where
   pub fields : length t.fields ≤ MOST_FIELDS
+  pub cases : length t.cases ≤ MOST_FIELDS
   pub payloads : All (λ c. length c.payloads ≤ MOST_PARAMETERS) t.cases
 
 abbrev pub HaveFewParts : List TypeInfo → Type 0
@@ -58,14 +59,10 @@ abbrev pub most_of_cases : List (Option ℕ) → List CaseInfo → Option ℕ
 most_of_cases known [] = Some 0
 most_of_cases known (c ∷ cs) = larger (sum_of_parts known c.payloads) (most_of_cases known cs)
 
-abbrev pub is_nil : {A : Type 0} → List A → Bool
-is_nil [] = true
-is_nil (x ∷ xs) = false
-
 abbrev pub slots_by_parts : List (Option ℕ) → TypeInfo → Option ℕ
 slots_by_parts known t =
     if t.is_enum then plus (Some 1) (most_of_cases known t.cases)
-    else plus (Some (one_if (t.has_deinit || is_nil t.fields))) (sum_of_parts known (field_types t.fields))
+    else plus (Some (one_if (t.has_deinit || is_empty t.fields))) (sum_of_parts known (field_types t.fields))
 
 -- what is known is small
 abbrev pub IsSmall : Option ℕ → Type 0

@@ -2,12 +2,13 @@
 use Rattle.std.specs.Prelude.{◌≡◌, ℕ, ◌<◌, ◌≤◌, List, length, slice_get, Some}
 use Rattle.own_tree.specs.declared.limits.TheConstants.{MOST_TYPE_SLOTS}
 use Rattle.own_tree.specs.declared.place.Ty.TheVariants as type
-use Rattle.own_table.specs.declared.info.Measure.{Measure}
-use Rattle.own_table.specs.declared.info.TypeInfo.{TypeInfo}
-use Rattle.own_table.specs.Types.{Shape, holds_tracked, slots, leaves, types_resolved}
+use Rattle.own_table.specs.declared.measure.Measure.{Measure}
+use Rattle.own_shapes.specs.declared.info.TypeInfo.{TypeInfo}
+use Rattle.own_table.specs.HasValue.{has_value}
+use Rattle.own_shapes.specs.Types.{Shape, holds_tracked, slots, leaves, types_resolved}
 
 abbrev pub measure_of : Shape → Measure
-measure_of s = record { holds_tracked = holds_tracked s; slots = slots s; leaves = leaves s }
+measure_of s = record { has_value = has_value s; holds_tracked = holds_tracked s; slots = slots s; leaves = leaves s }
 
 -- what is computed of each type is that of its shape
 abbrev pub AreMeasures : List TypeInfo → List Measure → Type 0

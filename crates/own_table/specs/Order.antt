@@ -2,12 +2,12 @@
 use Rattle.std.specs.Prelude.{◌≡◌, ℕ, suc, ◌+◌, ◌*◌, ◌<◌, Contains, List, [], ◌∷◌, length, slice_get, Option, Some, None}
 use Rattle.own_tree.specs.declared.place.Ty.{Ty}
 use Rattle.own_tree.specs.declared.place.Ty.TheVariants as type
-use Rattle.own_table.specs.declared.info.TypeInfo.{TypeInfo}
+use Rattle.own_shapes.specs.declared.info.TypeInfo.{TypeInfo}
 use Rattle.own_table.specs.declared.mark.Mark.{Mark}
 use Rattle.own_table.specs.declared.mark.Mark.TheVariants as mark
 use Rattle.own_table.specs.declared.mark.Unordered.{Unordered}
 use Rattle.own_table.specs.declared.mark.Unordered.TheVariants as unordered
-use Rattle.own_table.specs.Types.{contained, ContainsIn}
+use Rattle.own_shapes.specs.Types.{contained, ContainsIn}
 
 -- type k contains type j at once
 abbrev pub HasPart : List TypeInfo → ℕ → ℕ → Type 0

@@ -2,10 +2,10 @@
 use Rattle.std.specs.Prelude.{ℕ, Bool, true, false, List, map}
 use Rattle.own_tree.specs.declared.place.Ty.{Ty}
 use Rattle.own_tree.specs.Source.{Decl, Member, field, initializer, deinitializer, method, cases}
-use Rattle.own_table.specs.declared.info.CaseInfo.{CaseInfo}
-use Rattle.own_table.specs.declared.info.FieldInfo.{FieldInfo}
-use Rattle.own_table.specs.declared.info.TypeInfo.{TypeInfo}
-use Rattle.own_table.specs.Types.{declared_types, fields_of, cases_of, resolved_field, resolved_case, resolved_by}
+use Rattle.own_shapes.specs.declared.info.CaseInfo.{CaseInfo}
+use Rattle.own_shapes.specs.declared.info.FieldInfo.{FieldInfo}
+use Rattle.own_shapes.specs.declared.info.TypeInfo.{TypeInfo}
+use Rattle.own_shapes.specs.Types.{declared_types, fields_of, cases_of, resolved_field, resolved_case, resolved_by}
 
 abbrev pub member_fields : (List ℕ → Ty) → List Member → List FieldInfo
 member_fields type_of ms = map (resolved_field type_of) (fields_of ms)

@@ -1,6 +1,6 @@
 -- A search for an order of types, by its three lists.
 use Rattle.std.specs.Prelude.{◌≡◌, ℕ, List, [], ◌∷◌, ◌++◌, slice_set}
-use Rattle.own_table.specs.declared.info.TypeInfo.{TypeInfo}
+use Rattle.own_shapes.specs.declared.info.TypeInfo.{TypeInfo}
 use Rattle.own_table.specs.declared.mark.Mark.TheVariants as mark
 use Rattle.own_table.specs.declared.order.Settling.{Settling}
 use Rattle.own_table.specs.Order.{IsSettling, KeepsMarks, work_left}

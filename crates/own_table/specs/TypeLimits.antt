@@ -2,10 +2,11 @@
 use Rattle.std.specs.Prelude.{ℕ, if◌then◌else◌, List, [], ◌∷◌, length, Option, Some, None, slice_get}
 use Rattle.own_tree.specs.declared.span.Span.{Span}
 use Rattle.own_table.specs.declared.extent.Over.{Over}
-use Rattle.own_table.specs.declared.info.TypeInfo.{TypeInfo}
-use Rattle.own_table.specs.declared.survey.Counted.{Counted}
-use Rattle.own_table.specs.Limits.{counted, type_names}
-use Rattle.own_table.specs.Types.{Declared}
+use Rattle.own_shapes.specs.declared.info.TypeInfo.{TypeInfo}
+use Rattle.own_shapes.specs.declared.counted.Counted.{Counted}
+use Rattle.own_shapes.specs.Counts.{counted}
+use Rattle.own_survey.specs.Limits.{type_names}
+use Rattle.own_shapes.specs.Types.{Declared}
 
 abbrev pub at_span : ℕ → Option Span → Option Counted
 at_span count None = None

@@ -2,10 +2,10 @@
 use Rattle.std.specs.Prelude.{◌≡◌, ℕ, suc, false, List, Some}
 use Rattle.own_table.specs.declared.error.Unfit.{Unfit}
 use Rattle.own_table.specs.declared.error.Unfit.TheVariants as unfit
-use Rattle.own_table.specs.declared.info.TypeInfo.{TypeInfo}
+use Rattle.own_shapes.specs.declared.info.TypeInfo.{TypeInfo}
 use Rattle.own_table.specs.Extents.{first_over_M8}
 use Rattle.own_table.specs.Fitting.{are_fit}
-use Rattle.own_table.specs.Types.{ContainsIn}
+use Rattle.own_shapes.specs.Types.{ContainsIn}
 
 abbrev pub IsUnfit : List TypeInfo → Unfit → Type 0
 IsUnfit ts unfit.Parts = are_fit ts ≡ false

@@ -46,7 +46,8 @@ impl<T: Drop> From<AllocFailed<T>> for TableError {
 /// Why types whose names are resolved have no table.
 #[derive(Clone, Copy, Debug, PartialEq, Eq)]
 pub enum Unfit {
-    /// They are not within M4, M5 and M7, or a part of one is no type.
+    /// They are not within M4, M5 and M7, T01, T04 or T05 is false of one, or one has parts of another
+    /// kind.
     Parts,
     /// T03, at the type with this number.
     ContainsItself(u32),

@@ -1,65 +1,70 @@
-//! Tests of types before a table is made of them: M4, M5 and M7, and that their parts are types.
+//! Tests of types before a table is made of them: M4, M5 and M7, and T01, T04 and T05.
 
 ghost use Rattle.std.specs.Prelude.{◌≡◌, length};
 ghost use Rattle.std.specs.List.{list_all};
-ghost use Rattle.own_table.specs.Fitting.{are_fit, has_few_parts, has_few_payloads, has_known_parts, is_fit};
-ghost use Rattle.own_table.specs.Types.{all_case_types, contained, field_types, is_part};
+ghost use Rattle.own_table.specs.Fitting.{are_fit, has_content, has_few_parts, has_few_payloads, has_own_deinit, has_own_parts, is_content, is_fit};
+ghost use Rattle.own_shapes.specs.Types.{all_case_types, field_types};
 
-use crate::info::{CaseInfo, FieldInfo, TypeInfo};
+use own_shapes::{CaseInfo, FieldInfo, TypeInfo};
 use own_tree::Ty;
 use own_tree::limits::{MOST_FIELDS, MOST_PARAMETERS, MOST_TYPES};
 
-fn is_part(ty: Ty, count: usize) -> bool
-    ensures { result ≡ is_part count ty }
+/// Whether a stored property or a payload may be of this type: `Int`, `Bool` or a declared type (T01),
+/// which in a copyable type is copyable (T04).
+fn is_content(ty: Ty, noncopyable: bool, types: &[TypeInfo]) -> bool
+    ensures { result ≡ is_content types.now noncopyable ty }
 {
     match ty {
         Ty::Int | Ty::Bool => true,
         Ty::Unit | Ty::Fun(_) => false,
-        Ty::Named(k) => (k as usize) < count,
+        Ty::Named(k) => match types.get(k as usize) {
+            Some(info) => noncopyable || !info.noncopyable,
+            None => false,
+        },
     }
 }
 
-fn payloads_are_parts(payloads: &[Ty], count: usize) -> bool
-    ensures { result ≡ list_all (is_part count) payloads.now }
+fn payloads_fit(payloads: &[Ty], noncopyable: bool, types: &[TypeInfo]) -> bool
+    ensures { result ≡ list_all (is_content types.now noncopyable) payloads.now }
 {
     for ty in payloads {
-        if !is_part(*ty, count) {
+        if !is_content(*ty, noncopyable, types) {
             return false;
         }
     }
     true
 }
 
-fn fields_are_parts(fields: &[FieldInfo], count: usize) -> bool
-    ensures { result ≡ list_all (is_part count) (field_types fields.now) }
+fn fields_fit(fields: &[FieldInfo], noncopyable: bool, types: &[TypeInfo]) -> bool
+    ensures { result ≡ list_all (is_content types.now noncopyable) (field_types fields.now) }
 {
     for field in fields {
-        if !is_part(field.ty, count) {
+        if !is_content(field.ty, noncopyable, types) {
             return false;
         }
     }
     true
 }
 
-fn cases_are_parts(cases: &[CaseInfo], count: usize) -> bool
-    ensures { result ≡ list_all (is_part count) (all_case_types cases.now) }
+fn cases_fit(cases: &[CaseInfo], noncopyable: bool, types: &[TypeInfo]) -> bool
+    ensures { result ≡ list_all (is_content types.now noncopyable) (all_case_types cases.now) }
 {
     for case in cases {
-        if !payloads_are_parts(case.payloads.as_slice(), count) {
+        if !payloads_fit(case.payloads.as_slice(), noncopyable, types) {
             return false;
         }
     }
     true
 }
 
-/// Whether each part is `Int`, `Bool` or one of so many declared types (T01).
-fn has_known_parts(info: &TypeInfo, count: usize) -> bool
-    ensures { result ≡ has_known_parts count info.now }
+/// Whether each part is of a type that may stand there (T01, T04).
+fn has_content(info: &TypeInfo, types: &[TypeInfo]) -> bool
+    ensures { result ≡ has_content types.now info.now }
 {
     if info.is_enum {
-        cases_are_parts(info.cases.as_slice(), count)
+        cases_fit(info.cases.as_slice(), info.noncopyable, types)
     } else {
-        fields_are_parts(info.fields.as_slice(), count)
+        fields_fit(info.fields.as_slice(), info.noncopyable, types)
     }
 }
 
@@ -74,15 +79,44 @@ fn have_few_payloads(cases: &[CaseInfo]) -> bool
     true
 }
 
-fn is_fit(info: &TypeInfo, count: usize) -> bool
-    ensures { result ≡ is_fit count info.now }
+/// Whether it is within M5 and M7.
+fn has_few_parts(info: &TypeInfo) -> bool
+    ensures { result ≡ has_few_parts info.now }
 {
     info.fields.len() <= MOST_FIELDS
+        && info.cases.len() <= MOST_FIELDS
         && have_few_payloads(info.cases.as_slice())
-        && has_known_parts(info, count)
 }
 
-/// Whether types are within M4, M5 and M7, and their parts are types.
+/// Whether a `deinit` stands only where it may: in a noncopyable struct (T05, SE-0390).
+fn has_own_deinit(info: &TypeInfo) -> bool
+    ensures { result ≡ has_own_deinit info.now }
+{
+    !info.has_deinit || (info.noncopyable && !info.is_enum)
+}
+
+/// Whether a struct has no cases, and an enum no stored properties.
+fn has_own_parts(info: &TypeInfo) -> bool
+    ensures { result ≡ has_own_parts info.now }
+{
+    if info.is_enum {
+        info.fields.is_empty()
+    } else {
+        info.cases.is_empty()
+    }
+}
+
+fn is_fit(info: &TypeInfo, types: &[TypeInfo]) -> bool
+    ensures { result ≡ is_fit types.now info.now }
+{
+    has_few_parts(info)
+        && has_own_deinit(info)
+        && has_own_parts(info)
+        && has_content(info, types)
+}
+
+/// Whether types are within M4, M5 and M7, T01, T04 and T05 hold of them, and each has the parts of its
+/// kind alone.
 pub fn are_fit(types: &[TypeInfo]) -> bool
     ensures { result ≡ are_fit types.now }
 {
@@ -90,7 +124,7 @@ pub fn are_fit(types: &[TypeInfo]) -> bool
         return false;
     }
     for info in types {
-        if !is_fit(info, types.len()) {
+        if !is_fit(info, types) {
             return false;
         }
     }

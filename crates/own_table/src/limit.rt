@@ -3,13 +3,14 @@
 ghost use Rattle.std.specs.Prelude.{◌≡◌, ◌≤◌, ◌<◌, ◌++◌, ◌∷◌, [], length, map, slice_get, Some, IfNone, IfOk, OnOk};
 ghost use Rattle.own_tree.specs.declared.limits.TheConstants.{MOST_FIELDS, MOST_TYPES};
 ghost use Rattle.own_tree.specs.View.{declaration_view};
-ghost use Rattle.own_table.specs.Limits.{first_over, too_many, type_names};
+ghost use Rattle.own_shapes.specs.Counts.{first_over, too_many};
+ghost use Rattle.own_survey.specs.Limits.{type_names};
 ghost use Rattle.own_table.specs.TypeLimits.{counts_of, part_count};
-ghost use Rattle.own_table.specs.Types.{declared_types};
+ghost use Rattle.own_shapes.specs.Types.{declared_types};
 
 use crate::extent::Over;
-use crate::info::TypeInfo;
-use crate::survey::Counted;
+use own_shapes::TypeInfo;
+use own_shapes::Counted;
 use own_tree::limits::{MOST_FIELDS, MOST_TYPES};
 use own_tree::tree::Declaration;
 use own_tree::{Row, Span};

@@ -3,16 +3,25 @@
 ghost use Rattle.std.specs.Prelude.{◌≡◌, ◌≤◌, ◌∷◌, ◌++◌, [], None, length, map, slice_get, IfOk, OnOk};
 ghost use Rattle.own_tree.specs.declared.limits.TheConstants.{MOST_FIELDS, MOST_TYPES};
 ghost use Rattle.own_table.specs.declared.measure.Unmeasured.TheVariants as unmeasured;
-ghost use Rattle.own_table.specs.ByParts.{field_leaves, holds_by_parts, leaves_at, leaves_by_parts, measure_by_parts, one_case_holds, one_holds, part_holds, part_leaves, slots_at};
+ghost use Rattle.own_table.specs.ByParts.{all_parts_have_values, field_leaves, fields_have_values, holds_by_parts, leaves_at, leaves_by_parts, measure_by_parts, one_case_has_values, one_case_holds, one_holds, part_has_value, part_holds, part_leaves, slots_at, value_by_parts};
 ghost use Rattle.own_table.specs.Extents.{AreKnown, HasFewParts, HaveFewParts, first_over_M8};
 ghost use Rattle.own_table.specs.Measures.{AreMeasures};
 ghost use Rattle.own_table.specs.Order.{IsContainmentOrder};
-ghost use Rattle.own_table.specs.Types.{field_types};
+ghost use Rattle.own_shapes.specs.Types.{field_types};
 
 use crate::extent::Over;
-use crate::info::{CaseInfo, FieldInfo, Measure, TypeInfo};
+use own_shapes::{CaseInfo, FieldInfo, TypeInfo};
 use own_tree::{Row, Ty};
 use std::alloc::{AllocError, AllocFailed, Global};
+
+/// What is computed once of a declared type, from what it contains.
+#[derive(Debug, Drop)]
+pub struct Measure {
+    pub has_value: bool,
+    pub holds_tracked: bool,
+    pub slots: u32,
+    pub leaves: Row<Row<u32>>,
+}
 
 /// Why types have no table.
 #[derive(Clone, Copy, Debug)]
@@ -183,6 +192,49 @@ fn type_holds(info: &TypeInfo, measures: &[Measure]) -> bool
     }
 }
 
+fn part_has_value(ty: Ty, measures: &[Measure]) -> bool
+    ensures { result ≡ part_has_value measures.now ty }
+{
+    match ty {
+        Ty::Named(k) => match measures.get(k as usize) {
+            Some(measure) => measure.has_value,
+            None => false,
+        },
+        _ => true,
+    }
+}
+
+fn payloads_have_values(payloads: &[Ty], measures: &[Measure]) -> bool
+    ensures { result ≡ all_parts_have_values measures.now payloads.now }
+{
+    payloads.iter().all(|ty| part_has_value(*ty, measures))
+}
+
+fn one_case_has_values(cases: &[CaseInfo], measures: &[Measure]) -> bool
+    ensures { result ≡ one_case_has_values measures.now cases.now }
+{
+    cases
+        .iter()
+        .any(|case| payloads_have_values(case.payloads.as_slice(), measures))
+}
+
+fn fields_have_values(fields: &[FieldInfo], measures: &[Measure]) -> bool
+    ensures { result ≡ fields_have_values measures.now fields.now }
+{
+    fields.iter().all(|field| part_has_value(field.ty, measures))
+}
+
+/// Whether a type has a value: an enum without cases has none, nor has a type that needs one of such.
+fn type_has_value(info: &TypeInfo, measures: &[Measure]) -> bool
+    ensures { result ≡ value_by_parts measures.now info.now }
+{
+    if info.is_enum {
+        one_case_has_values(info.cases.as_slice(), measures)
+    } else {
+        fields_have_values(info.fields.as_slice(), measures)
+    }
+}
+
 fn measure(
     alloc: Global,
     info: &TypeInfo,
@@ -193,6 +245,7 @@ fn measure(
     ensures { IfOk result (λ m. m ≡ measure_by_parts measures.now slots info.now) }
 {
     Ok(Measure {
+        has_value: type_has_value(info, measures),
         holds_tracked: type_holds(info, measures),
         slots,
         leaves: type_leaves(alloc, info, measures)?,
@@ -214,6 +267,7 @@ fn nothing_measured(alloc: Global, count: usize) -> Result<Vec<Measure>, AllocEr
     let mut measures = Vec::new(alloc);
     for _ in 0..count {
         measures.push(Measure {
+            has_value: false,
             holds_tracked: false,
             slots: 0,
             leaves: Row::new(alloc),

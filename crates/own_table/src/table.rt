@@ -2,13 +2,16 @@
 
 ghost use Rattle.std.specs.Prelude.{◌≡◌, length, ◌≤◌};
 ghost use Rattle.own_tree.specs.declared.limits.TheConstants.{MOST_TYPES};
+ghost use Rattle.own_table.specs.Extents.{HaveFewParts};
 ghost use Rattle.own_table.specs.Measures.{AreMeasures, AreWithin};
-ghost use Rattle.own_table.specs.Types.{NoneContainsItself, PartsAreTypes};
+ghost use Rattle.own_table.specs.Proper.{AreProper};
+ghost use Rattle.own_shapes.specs.Types.{NoneContainsItself, PartsAreTypes};
 
 use crate::error::Unfit;
 use crate::extent::{first_over, known_slots};
 use crate::fitting::are_fit;
-use crate::info::{CaseInfo, FieldInfo, Measure, TypeInfo};
+use own_shapes::{CaseInfo, FieldInfo, TypeInfo};
+use crate::measure::Measure;
 use crate::mark::Unordered;
 use crate::measure::{Unmeasured, measures};
 use crate::order::containment_order;
@@ -25,6 +28,10 @@ pub struct TypeTable {
     pub ghost few: { length types ≤ MOST_TYPES },
     /// T01: what a type contains is `Int`, `Bool` or declared.
     pub ghost closed: { PartsAreTypes types },
+    /// The text is within M5 and M7.
+    pub ghost few_parts: { HaveFewParts types },
+    /// T04, T05; a struct has no cases, and an enum no stored properties.
+    pub ghost proper: { AreProper types },
     /// T03: no type contains itself.
     pub ghost apart: { NoneContainsItself types },
     /// Each type is within M8, and has no more leaves than that.
@@ -35,17 +42,19 @@ pub struct TypeTable {
 
 impl TypeTable {
     ghost use Rattle.std.specs.Prelude.{◌<◌, slice_get, Some};
-    ghost use Rattle.own_table.specs.Types.{copyable, tracked, holds_tracked, leaves, slots};
+    ghost use Rattle.own_table.specs.HasValue.{has_value};
+    ghost use Rattle.own_shapes.specs.Types.{copyable, tracked, holds_tracked, leaves, slots};
     ghost use Rattle.std.specs.Prelude.{true, IfOk, IfErr, OnOk};
     ghost use Rattle.own_table.specs.ByParts.{IsOver};
-    ghost use Rattle.own_table.specs.Extents.{HaveFewParts};
     ghost use Rattle.own_table.specs.Fitting.{are_fit};
     ghost use Rattle.own_table.specs.Order.{IsContainmentOrder};
     ghost use Rattle.own_table.specs.Unfit.{IsUnfit};
     ghost use Rattle.own_table.specs.Table.{types_in, shape_in_table, IsTypeIn, IsTableOf};
 
-    /// The table of types, whose names are resolved: of types within M4, M5 and M7 of which each part is
-    /// a type, none of which contains itself, and which are all within M8.
+    /// The table of types whose names are resolved. They are within M4, M5 and M7; their parts are types
+    /// (T01), in a copyable type copyable ones (T04); a `deinit` stands in a noncopyable struct (T05); a
+    /// struct has no cases and an enum no stored properties; none contains itself (T03); and all are
+    /// within M8.
     pub fn from_types(alloc: Global, types: Row<TypeInfo>) -> Result<TypeTable, Unfit>
         ensures ok { IfOk result (IsTableOf types) }
         ensures fit { OnOk result (are_fit types ≡ true) }
@@ -77,6 +86,7 @@ impl TypeTable {
         requires few_types { length types ≤ MOST_TYPES }
         requires few_parts { HaveFewParts types }
         requires closed { PartsAreTypes types }
+        requires proper { AreProper types }
         requires order { IsContainmentOrder types order.now }
         ensures ok { IfOk result (IsTableOf types) }
         ensures err { IfErr result (IsOver types) }
@@ -140,6 +150,17 @@ impl TypeTable {
         match t {
             Ty::Named(k) => self.measures.as_slice()[k as usize].holds_tracked,
             _ => false,
+        }
+    }
+
+    /// Whether it has a value: an enum without cases has none, nor has a type that needs one of such.
+    pub fn has_value(&self, t: Ty) -> bool
+        requires { IsTypeIn self.now t }
+        ensures { result ≡ has_value (shape_in_table self.now t) }
+    {
+        match t {
+            Ty::Named(k) => self.measures.as_slice()[k as usize].has_value,
+            _ => true,
         }
     }
 

@@ -3,7 +3,16 @@ use own_tree::{Bytes, Row, Ty};
 use std::alloc::{AllocError, Global};
 use std::test::*;
 
-fn struct_of(alloc: Global, has_deinit: bool, tys: &[Ty]) -> Result<TypeInfo, AllocError> {
+/// How a struct is declared.
+#[derive(Clone, Copy, PartialEq, Eq)]
+enum Kind {
+    Copyable,
+    Noncopyable,
+    /// Noncopyable, with a `deinit`.
+    Tracked,
+}
+
+fn struct_of(alloc: Global, kind: Kind, tys: &[Ty]) -> Result<TypeInfo, AllocError> {
     let mut fields = Row::new(alloc);
     for ty in tys {
         fields.push(FieldInfo {
@@ -15,8 +24,8 @@ fn struct_of(alloc: Global, has_deinit: bool, tys: &[Ty]) -> Result<TypeInfo, Al
     Ok(TypeInfo {
         name: Bytes::from_slice(alloc, b"Struct")?,
         is_enum: false,
-        noncopyable: has_deinit,
-        has_deinit,
+        noncopyable: kind != Kind::Copyable,
+        has_deinit: kind == Kind::Tracked,
         fields,
         cases: Row::new(alloc),
     })
@@ -82,11 +91,12 @@ fn leaf(table: &TypeTable, number: u32, k: u32) -> Option<&[u32]> {
 /// the enum of all.
 fn mixed_types(alloc: Global) -> Result<Row<TypeInfo>, AllocError> {
     let mut types = Row::new(alloc);
-    types.push(struct_of(alloc, true, &[Ty::Int])?)?;
+    types.push(struct_of(alloc, Kind::Tracked, &[Ty::Int])?)?;
     types.push(enum_of(alloc, &[&[], &[Ty::Named(3)], &[Ty::Int, Ty::Named(2)]])?)?;
-    types.push(struct_of(alloc, false, &[Ty::Bool, Ty::Int])?)?;
-    types.push(struct_of(alloc, false, &[Ty::Int, Ty::Named(0), Ty::Named(2)])?)?;
-    types.push(struct_of(alloc, false, &[])?)?;
+    types.push(struct_of(alloc, Kind::Copyable, &[Ty::Bool, Ty::Int])?)?;
+    let pair = [Ty::Int, Ty::Named(0), Ty::Named(2)];
+    types.push(struct_of(alloc, Kind::Noncopyable, &pair)?)?;
+    types.push(struct_of(alloc, Kind::Copyable, &[])?)?;
     types.push(enum_of(alloc, &[&[]])?)?;
     Ok(types)
 }
@@ -106,7 +116,7 @@ fn reads_types_as_they_are_declared(rt: HostRuntime) -> Result<(), Fail> {
         (Ty::Named(0), (false, true, true), (1, 2, false, 1)),
         (Ty::Named(1), (false, false, true), (1, 6, true, 3)),
         (Ty::Named(2), (true, false, false), (2, 2, false, 2)),
-        (Ty::Named(3), (true, false, true), (4, 5, false, 3)),
+        (Ty::Named(3), (false, false, true), (4, 5, false, 3)),
         (Ty::Named(4), (true, false, false), (1, 1, false, 0)),
         (Ty::Named(5), (false, false, false), (1, 1, true, 1)),
     ];
@@ -155,9 +165,9 @@ fn unfit(alloc: Global, types: Row<TypeInfo>) -> Option<Unfit> {
 fn chain(alloc: Global, from: u32, to: u32, last: Ty) -> Result<Row<TypeInfo>, AllocError> {
     let mut types = Row::new(alloc);
     for number in from..to {
-        types.push(struct_of(alloc, false, &[Ty::Int, Ty::Named(number + 1)])?)?;
+        types.push(struct_of(alloc, Kind::Copyable, &[Ty::Int, Ty::Named(number + 1)])?)?;
     }
-    types.push(struct_of(alloc, false, &[last])?)?;
+    types.push(struct_of(alloc, Kind::Copyable, &[last])?)?;
     Ok(types)
 }
 
@@ -181,8 +191,8 @@ fn wide(alloc: Global, numbers: usize) -> Result<Row<TypeInfo>, AllocError> {
         tys.push(Ty::Int)?;
     }
     let mut types = Row::new(alloc);
-    types.push(struct_of(alloc, false, &[Ty::Named(1)])?)?;
-    types.push(struct_of(alloc, false, tys.as_slice())?)?;
+    types.push(struct_of(alloc, Kind::Copyable, &[Ty::Named(1)])?)?;
+    types.push(struct_of(alloc, Kind::Copyable, tys.as_slice())?)?;
     Ok(types)
 }
 
@@ -203,13 +213,48 @@ fn a_type_has_at_most_64_slots(rt: HostRuntime) -> Result<(), Fail> {
     Ok(())
 }
 
+/// A type by itself.
+fn alone(alloc: Global, info: TypeInfo) -> Result<Row<TypeInfo>, AllocError> {
+    let mut types = Row::new(alloc);
+    types.push(info)?;
+    Ok(types)
+}
+
+#[test]
+fn a_declaration_has_the_parts_of_its_kind(rt: HostRuntime) -> Result<(), Fail> {
+    let alloc = rt.alloc();
+    // T04: a copyable struct with a noncopyable part.
+    let mut types = Row::new(alloc);
+    let part = struct_of(alloc, Kind::Noncopyable, &[Ty::Int]);
+    types.push(part.ok().ok_or("memory")?).ok().ok_or("memory")?;
+    let whole = struct_of(alloc, Kind::Copyable, &[Ty::Named(0)]);
+    types.push(whole.ok().ok_or("memory")?).ok().ok_or("memory")?;
+    assert_eq!(rt; unfit(alloc, types), Some(Unfit::Parts));
+    // T05: an enum with a `deinit`.
+    let mut info = enum_of(alloc, &[&[]]).ok().ok_or("memory")?;
+    info.has_deinit = true;
+    let types = alone(alloc, info).ok().ok_or("memory")?;
+    assert_eq!(rt; unfit(alloc, types), Some(Unfit::Parts));
+    // An enum that says it is a struct.
+    let mut info = enum_of(alloc, &[&[]]).ok().ok_or("memory")?;
+    info.is_enum = false;
+    let types = alone(alloc, info).ok().ok_or("memory")?;
+    assert_eq!(rt; unfit(alloc, types), Some(Unfit::Parts));
+    // M5 counts cases too.
+    let cases: [&[Ty]; 257] = [&[]; 257];
+    let info = enum_of(alloc, &cases).ok().ok_or("memory")?;
+    let types = alone(alloc, info).ok().ok_or("memory")?;
+    assert_eq!(rt; unfit(alloc, types), Some(Unfit::Parts));
+    Ok(())
+}
+
 /// So many structs, each of which contains the next one alone.
 fn nested(alloc: Global, count: u32) -> Result<Row<TypeInfo>, AllocError> {
     let mut types = Row::new(alloc);
     for number in 1..count {
-        types.push(struct_of(alloc, false, &[Ty::Named(number)])?)?;
+        types.push(struct_of(alloc, Kind::Noncopyable, &[Ty::Named(number)])?)?;
     }
-    types.push(struct_of(alloc, true, &[])?)?;
+    types.push(struct_of(alloc, Kind::Tracked, &[])?)?;
     Ok(types)
 }
 

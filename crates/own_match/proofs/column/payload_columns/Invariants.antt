@@ -1,6 +1,6 @@
 use Rattle.std.proofs.Common.{◌≡◌, ◌++◌, drop, map}
 use Rattle.own_table.specs.Table.{shape_in_table}
-use Rattle.own_table.specs.Types.{shapes_of}
+use Rattle.own_shapes.specs.Types.{shapes_of}
 use Rattle.own_match.specs.View.{said_all, columns_held}
 use Rattle.own_match.specs.Search.{payload_columns}
 use Rattle.own_match.proofs.column.payload_columns.Given as goal

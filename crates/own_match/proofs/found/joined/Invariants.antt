@@ -1,6 +1,6 @@
 use Rattle.std.proofs.Common.{◌≡◌, ◌++◌, map, drop}
 use Rattle.own_tree.specs.declared.place.Ty.{Ty}
-use Rattle.own_table.specs.Types.{Shape}
+use Rattle.own_shapes.specs.Types.{Shape}
 use Rattle.own_match.specs.View.{columns_held}
 use Rattle.own_match.proofs.found.joined.Given as goal
 

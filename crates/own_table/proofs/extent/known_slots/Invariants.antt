@@ -2,7 +2,7 @@ use Rattle.std.proofs.Common.{◌≡◌, ℕ, ◌<◌, length, slice_get, Some}
 use Rattle.std.specs.Prelude.{All}
 use Rattle.own_tree.specs.declared.place.Ty.TheVariants as type
 use Rattle.own_table.specs.Extents.{IsSmall, within_M8}
-use Rattle.own_table.specs.Types.{slots, types_resolved}
+use Rattle.own_shapes.specs.Types.{slots, types_resolved}
 use Rattle.own_table.proofs.extent.known_slots.Given as goal
 
 abbrev pub invariant-loop-number : goal.invariant-loop-number

@@ -1,6 +1,6 @@
 use Rattle.std.proofs.Common.{◌≡◌, length}
 use Rattle.own_tree.specs.declared.limits.TheConstants.{MOST_FIELDS}
-use Rattle.own_table.specs.Limits.{first_over}
+use Rattle.own_shapes.specs.Counts.{first_over}
 use Rattle.own_table.specs.TypeLimits.{counts_of}
 use Rattle.own_table.proofs.limit.over_parts.Given as goal
 

@@ -1,8 +1,8 @@
 use Rattle.std.proofs.Common.{◌≤◌, ◌++◌, ◌∷◌, [], length, map, sym, ap, ◌∙◌, arith}
 use Rattle.std.proofs.lemmas.List.{take_all}
 use Rattle.own_tree.specs.View.{declaration_view}
-use Rattle.own_table.specs.Limits.{type_names}
-use Rattle.own_table.specs.Types.{declared_types}
+use Rattle.own_survey.specs.Limits.{type_names}
+use Rattle.own_shapes.specs.Types.{declared_types}
 use Rattle.own_table.proofs.TypeLimited.{names_more, length-type_names}
 use Rattle.own_table.proofs.limit.type_spans.Goals as goal
 

@@ -1,7 +1,7 @@
 use Rattle.std.proofs.Common.{◌≡◌, map, take}
 use Rattle.own_tree.specs.View.{declaration_view}
-use Rattle.own_table.specs.Limits.{type_names}
-use Rattle.own_table.specs.Types.{declared_types}
+use Rattle.own_survey.specs.Limits.{type_names}
+use Rattle.own_shapes.specs.Types.{declared_types}
 use Rattle.own_table.proofs.limit.type_spans.Given as goal
 
 abbrev pub invariant-loop-declaration : goal.invariant-loop-declaration

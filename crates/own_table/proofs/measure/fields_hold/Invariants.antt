@@ -1,6 +1,6 @@
 use Rattle.std.proofs.Common.{◌≡◌, drop}
 use Rattle.own_table.specs.ByParts.{one_holds}
-use Rattle.own_table.specs.Types.{field_types}
+use Rattle.own_shapes.specs.Types.{field_types}
 use Rattle.own_table.proofs.measure.fields_hold.Given as goal
 
 abbrev pub invariant-loop-field : goal.invariant-loop-field

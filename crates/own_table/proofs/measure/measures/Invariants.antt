@@ -1,7 +1,7 @@
 use Rattle.std.proofs.Common.{◌≡◌, ℕ, ◌<◌, length, slice_get, Some}
 use Rattle.own_tree.specs.declared.place.Ty.TheVariants as type
 use Rattle.own_table.specs.Measures.{measure_of}
-use Rattle.own_table.specs.Types.{types_resolved}
+use Rattle.own_shapes.specs.Types.{types_resolved}
 use Rattle.own_table.proofs.measure.measures.Given as goal
 
 abbrev pub invariant-loop-number : goal.invariant-loop-number

@@ -1,6 +1,6 @@
 use Rattle.std.proofs.Common.{◌≡◌, drop}
 use Rattle.own_table.specs.Order.{first_unsettled}
-use Rattle.own_table.specs.Types.{field_types}
+use Rattle.own_shapes.specs.Types.{field_types}
 use Rattle.own_table.proofs.order.unsettled_field.Given as goal
 
 abbrev pub invariant-loop-field : goal.invariant-loop-field

@@ -1,6 +1,6 @@
 use Rattle.std.proofs.Common.{◌+◌, drop, ap, sym, ◌∙◌}
 use Rattle.own_table.specs.Order.{first_of, first_unsettled}
-use Rattle.own_table.specs.Types.{all_case_types}
+use Rattle.own_shapes.specs.Types.{all_case_types}
 use Rattle.own_table.proofs.Settled.{first_in_cases}
 use Rattle.own_table.proofs.order.unsettled_in_cases.Goals as goal
 

@@ -1,6 +1,6 @@
 use Rattle.std.proofs.Common.{◌++◌, ◌∷◌, [], sym, ap, ◌∙◌}
 use Rattle.own_tree.specs.View.{declaration_view}
-use Rattle.own_table.specs.Numbers.{written_by}
+use Rattle.own_survey.specs.Numbers.{written_by}
 use Rattle.own_table.specs.Resolving.{declared_infos}
 use Rattle.own_table.proofs.Resolved.{infos_more}
 use Rattle.own_table.proofs.resolve.declared_infos.Goals as goal

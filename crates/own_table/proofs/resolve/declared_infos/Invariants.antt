@@ -1,6 +1,6 @@
 use Rattle.std.proofs.Common.{◌≡◌, map, take}
 use Rattle.own_tree.specs.View.{declaration_view}
-use Rattle.own_table.specs.Numbers.{written_by}
+use Rattle.own_survey.specs.Numbers.{written_by}
 use Rattle.own_table.specs.Resolving.{declared_infos}
 use Rattle.own_table.proofs.resolve.declared_infos.Given as goal
 

@@ -1,6 +1,6 @@
 use Rattle.std.proofs.Common.{◌++◌, ◌∷◌, [], sym, ap, ◌∙◌}
 use Rattle.own_tree.specs.View.{enum_member_view}
-use Rattle.own_table.specs.Numbers.{written_by}
+use Rattle.own_survey.specs.Numbers.{written_by}
 use Rattle.own_table.specs.Resolving.{member_cases}
 use Rattle.own_table.proofs.Resolved.{enum_cases_more}
 use Rattle.own_table.proofs.resolve.enum_cases.Goals as goal

@@ -1,9 +1,9 @@
 use Rattle.std.proofs.Common.{true, map, sym, ap, ◌∙◌}
 use Rattle.std.specs.List.{list_any}
 use Rattle.own_tree.specs.View.{enum_member_view}
-use Rattle.own_table.specs.Numbers.{written_by}
+use Rattle.own_survey.specs.Numbers.{written_by}
 use Rattle.own_table.specs.Resolving.{is_deinitializer, member_cases}
-use Rattle.own_table.specs.Types.{fields_of, cases_of, has_deinit, resolved_field, resolved_case}
+use Rattle.own_shapes.specs.Types.{fields_of, cases_of, has_deinit, resolved_field, resolved_case}
 use Rattle.own_table.proofs.Resolved.{has_deinit_any, same_info, enum_fields}
 use Rattle.own_table.proofs.resolve.enum_info.Goals as goal
 

@@ -1,6 +1,6 @@
 use Rattle.std.proofs.Common.{◌≡◌, ◌++◌, map, take}
-use Rattle.own_table.specs.Numbers.{written_by}
-use Rattle.own_table.specs.Types.{resolved_case}
+use Rattle.own_survey.specs.Numbers.{written_by}
+use Rattle.own_shapes.specs.Types.{resolved_case}
 use Rattle.own_table.proofs.resolve.push_items.Given as goal
 
 abbrev pub invariant-loop-item : goal.invariant-loop-item

@@ -1,6 +1,6 @@
 use Rattle.std.proofs.Common.{◌≡◌, map, take}
 use Rattle.own_tree.specs.View.{struct_member_view}
-use Rattle.own_table.specs.Numbers.{written_by}
+use Rattle.own_survey.specs.Numbers.{written_by}
 use Rattle.own_table.specs.Resolving.{member_fields}
 use Rattle.own_table.proofs.resolve.struct_fields.Given as goal
 

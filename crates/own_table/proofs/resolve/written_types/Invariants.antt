@@ -1,5 +1,5 @@
 use Rattle.std.proofs.Common.{◌≡◌, map, take}
-use Rattle.own_table.specs.Numbers.{written_by}
+use Rattle.own_survey.specs.Numbers.{written_by}
 use Rattle.own_table.proofs.resolve.written_types.Given as goal
 
 abbrev pub invariant-loop-name : goal.invariant-loop-name

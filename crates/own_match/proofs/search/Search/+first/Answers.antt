@@ -2,7 +2,7 @@
 use Rattle.std.proofs.Common.{◌≡◌, ◌<◌, ◌≤◌, ◌+◌, ◌∙◌, ap, sym, refl, subst, arith, false, Some, None, slice_get, drop, map}
 use Rattle.own_tree.specs.TypedView.{pats_of, pattern_view}
 use Rattle.own_table.specs.Table.{shape_in_table}
-use Rattle.own_table.specs.Types.{shapes_of, payloads_of, case_types}
+use Rattle.own_shapes.specs.Types.{shapes_of, payloads_of, case_types}
 use Rattle.own_match.specs.declared.column.Column.{Column as Held}
 use Rattle.own_match.specs.Inhabited.{all_have_values}
 use Rattle.own_match.specs.Search.{all_inhabited, payload_columns}

@@ -1,6 +1,6 @@
 use Rattle.std.proofs.Common.{◌≡◌, ◌+◌, ◌*◌, drop}
 use Rattle.own_table.specs.Table.{shape_in_table}
-use Rattle.own_table.specs.Types.{payloads_of, case_types}
+use Rattle.own_shapes.specs.Types.{payloads_of, case_types}
 use Rattle.own_match.specs.First.{first_case, first_form, first_of_columns}
 use Rattle.own_match.specs.View.{said_all, columns_held, forms_and}
 use Rattle.own_match.specs.Weights.{weight}

@@ -5,8 +5,8 @@ use Rattle.own_match.proofs.Patterns.{any_view, number_view, truth_view}
 use Rattle.own_tree.specs.TypedSource.{of_number, of_truth}
 use Rattle.own_tree.specs.TypedView.{pats_of, pattern_view}
 use Rattle.own_table.specs.Table.{shape_in_table}
-use Rattle.own_table.specs.Types.{shapes_of, payloads_of, case_types}
-use Rattle.own_table.specs.Types as shape
+use Rattle.own_shapes.specs.Types.{shapes_of, payloads_of, case_types}
+use Rattle.own_shapes.specs.Types as shape
 use Rattle.own_match.specs.First.{case_with, first_forms}
 use Rattle.own_match.specs.declared.column.Column.{Column as Held}
 use Rattle.own_match.specs.declared.head.Head.TheVariants as head

@@ -1,6 +1,6 @@
 use Rattle.std.proofs.Common.{◌≡◌, ◌+◌, ◌*◌, drop}
 use Rattle.own_table.specs.Table.{shape_in_table}
-use Rattle.own_table.specs.Types.{payloads_of, case_types}
+use Rattle.own_shapes.specs.Types.{payloads_of, case_types}
 use Rattle.own_match.specs.Search.{rising, gap_in_numbers, gap_in_cases}
 use Rattle.own_match.specs.View.{said_all, columns_held, rest_of, gap_from}
 use Rattle.own_match.specs.Weights.{columns_weight, weight_from}

@@ -1,7 +1,7 @@
 use Rattle.std.proofs.Common.{length, Some, refl, sym, ap, ◌∙◌}
 use Rattle.std.proofs.lemmas.Option.{slice_get_read}
 use Rattle.own_table.specs.Order.{first_unsettled}
-use Rattle.own_table.specs.Types.{contained}
+use Rattle.own_shapes.specs.Types.{contained}
 use Rattle.own_table.proofs.Advance.{last_declared, last_marked, settled_last, settled_less, settled_keeps, part_marked, part_mark, part_circle, opened_part, opened_less, opened_keeps}
 use Rattle.own_table.proofs.order.Settling.advance.Goals as goal
 

@@ -6,10 +6,11 @@ use Rattle.own_table.specs.declared.error.TableError.TheVariants as refused
 use Rattle.own_table.specs.Building.{IsRefused}
 use Rattle.own_table.specs.ByParts.{IsOver}
 use Rattle.own_table.specs.Extents.{first_over_M8, HaveFewParts}
-use Rattle.own_table.specs.Limits.{type_names}
+use Rattle.own_survey.specs.Limits.{type_names}
 use Rattle.own_table.specs.Order.{IsCircle}
-use Rattle.own_table.specs.Types.{declared_types, resolved_types, types_resolved, types_of, types_declared, NoneContainsItself, PartsAreTypes}
-use Rattle.own_table.proofs.Built.{surveyed_closed, surveyed_few, circle_named, circular_at, has_table, too_large, over_named}
+use Rattle.own_table.specs.Proper.{AreProper}
+use Rattle.own_shapes.specs.Types.{declared_types, resolved_types, types_resolved, types_of, types_declared, NoneContainsItself, PartsAreTypes}
+use Rattle.own_table.proofs.Built.{surveyed_closed, surveyed_few, surveyed_proper, circle_named, circular_at, has_table, too_large, over_named}
 use Rattle.own_table.proofs.Settled.{order_apart}
 use Rattle.own_table.proofs.table.TypeTable.build.Goals as goal
 
@@ -48,6 +49,11 @@ pub from_order-requires-clause-closed : goal.from_order-requires-clause-closed
 from_order-requires-clause-closed c =
     subst PartsAreTypes (sym (c.in_ok-types.ensures ∙ ap (λ xs. resolved_types (declared_types (map declaration_view xs))) c.as_slice-declarations.ensures))
     (surveyed_closed c.args.tree.now c.in_ok-judge.ensures.ok)
+
+pub from_order-requires-clause-proper : goal.from_order-requires-clause-proper
+from_order-requires-clause-proper c =
+    subst AreProper (sym (c.in_ok-types.ensures ∙ ap (λ xs. resolved_types (declared_types (map declaration_view xs))) c.as_slice-declarations.ensures))
+    (surveyed_proper c.args.tree.now c.in_ok-judge.ensures.ok)
 
 pub returns-in-Ok-from_order-clause-ok : goal.returns-in-Ok-from_order-clause-ok
 unfolding types_of types_declared

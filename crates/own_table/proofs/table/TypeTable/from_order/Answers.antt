@@ -1,7 +1,7 @@
 use Rattle.std.proofs.Common.{length, sym, ap, ◌∙◌, subst}
 use Rattle.own_table.specs.Extents.{first_over_M8}
 use Rattle.own_table.specs.Measures.{AreMeasures}
-use Rattle.own_table.specs.Types.{NoneContainsItself}
+use Rattle.own_shapes.specs.Types.{NoneContainsItself}
 use Rattle.own_table.proofs.Extended.{all_within}
 use Rattle.own_table.proofs.FewLeaves.{are_within}
 use Rattle.own_table.proofs.Settled.{order_apart}
@@ -23,6 +23,8 @@ invariant_of-result c =
     record {
       few = c.requires.few_types;
       closed = c.requires.closed;
+      few_parts = c.requires.few_parts;
+      proper = c.requires.proper;
       apart = order_apart ts order c.requires.order;
       within = are_within ts c.requires.closed order c.requires.order (all_within ts none order c.requires.order);
       counted = c.in_ok-measures.ensures.each ∙ ap (λ xs. length xs) c.as_slice-4.ensures;

@@ -1,8 +1,8 @@
 use Rattle.std.proofs.Common.{◌≡◌, true, sym, ap, ◌∙◌, subst}
 use Rattle.own_table.specs.Fitting.{are_fit}
 use Rattle.own_table.specs.Order.{IsContainmentOrder}
-use Rattle.own_table.specs.Types.{PartsAreTypes}
-use Rattle.own_table.proofs.Fitted.{fit_closed}
+use Rattle.own_shapes.specs.Types.{PartsAreTypes}
+use Rattle.own_table.proofs.Fitted.{fit_closed, fit_proper}
 use Rattle.own_table.proofs.Settled.{order_apart}
 use Rattle.own_table.proofs.table.TypeTable.from_types.Goals as goal
 
@@ -15,6 +15,11 @@ pub from_order-requires-clause-closed : goal.from_order-requires-clause-closed
 from_order-requires-clause-closed c =
     let fit : are_fit c.args.types ≡ true = ap are_fit (sym c.as_slice.ensures) ∙ sym c.are_fit.ensures ∙ c.if-not-are_fit.false in
     fit_closed c.args.types fit
+
+pub from_order-requires-clause-proper : goal.from_order-requires-clause-proper
+from_order-requires-clause-proper c =
+    let fit : are_fit c.args.types ≡ true = ap are_fit (sym c.as_slice.ensures) ∙ sym c.are_fit.ensures ∙ c.if-not-are_fit.false in
+    fit_proper c.args.types fit
 
 pub returns-in-Ok-from_order-clause-apart : goal.returns-in-Ok-from_order-clause-apart
 returns-in-Ok-from_order-clause-apart c =

@@ -1,0 +1,17 @@
+pub mod Orders
+pub mod Descent
+pub mod PartsOfLeaves
+pub mod Causes
+pub mod Sound
+pub mod TraceFacts
+pub mod Following
+pub mod Occurs
+pub mod Least
+pub mod Every
+pub mod Refused
+pub mod WholeLists
+pub mod Worked
+pub mod Accepted
+pub mod Single
+pub mod Proved
+pub mod Exceeded

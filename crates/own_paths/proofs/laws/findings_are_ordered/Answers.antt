@@ -1,0 +1,5 @@
+use Rattle.own_paths.proofs.Proved.{findings_are_ordered}
+use Rattle.own_paths.proofs.laws.findings_are_ordered.Goals as goal
+
+pub returns : goal.returns
+returns c = findings_are_ordered

@@ -1,0 +1,10 @@
+pub mod Within
+pub mod Captures
+pub mod Ops
+pub mod Traces
+pub mod Fixed
+pub mod Makers
+pub mod Findings
+pub mod Facts
+pub mod BodyLimits
+pub mod Laws

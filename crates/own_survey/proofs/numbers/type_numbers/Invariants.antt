@@ -1,0 +1,11 @@
+use Rattle.std.proofs.Common.{◌≡◌, length, map, take}
+use Rattle.own_tree.specs.View.{declaration_view}
+use Rattle.own_survey.specs.Numbers.{IsNumbering}
+use Rattle.own_shapes.specs.Types.{declared_types}
+use Rattle.own_survey.proofs.numbers.type_numbers.Given as goal
+
+abbrev pub invariant-loop-declaration : goal.invariant-loop-declaration
+invariant-loop-declaration l = record {
+  numbering : IsNumbering (map declaration_view (take l.declaration-index l.declarations)) l.numbers.entries;
+  counted : l.count ≡ length (declared_types (map declaration_view (take l.declaration-index l.declarations)));
+}

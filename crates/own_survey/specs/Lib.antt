@@ -1,0 +1,8 @@
+pub mod Parts
+pub mod Limits
+pub mod Judgements
+pub mod Names
+pub mod Numbers
+pub mod Walks
+pub mod TextWalks
+pub mod Laws

@@ -1,7 +1,0 @@
-use Rattle.std.proofs.Common.{◌≡◌, drop}
-use Rattle.std.specs.List.{list_all}
-use Rattle.own_table.specs.Types.{is_part, all_case_types}
-use Rattle.own_table.proofs.fitting.cases_are_parts.Given as goal
-
-abbrev pub invariant-loop-case : goal.invariant-loop-case
-invariant-loop-case l = list_all (is_part l.count) (all_case_types (drop l.case-index l.cases)) ≡ list_all (is_part l.count) (all_case_types l.cases)

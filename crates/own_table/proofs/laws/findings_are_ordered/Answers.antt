@@ -1,5 +1,0 @@
-use Rattle.own_table.proofs.Proved.{findings_are_ordered}
-use Rattle.own_table.proofs.laws.findings_are_ordered.Goals as goal
-
-pub returns : goal.returns
-returns c = findings_are_ordered

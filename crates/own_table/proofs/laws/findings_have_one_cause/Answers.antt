@@ -1,5 +1,0 @@
-use Rattle.own_table.proofs.Proved.{findings_have_one_cause}
-use Rattle.own_table.proofs.laws.findings_have_one_cause.Goals as goal
-
-pub returns : goal.returns
-returns c = findings_have_one_cause

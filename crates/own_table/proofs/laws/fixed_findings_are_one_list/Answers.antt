@@ -1,5 +1,0 @@
-use Rattle.own_table.proofs.Proved.{fixed_findings_are_one_list}
-use Rattle.own_table.proofs.laws.fixed_findings_are_one_list.Goals as goal
-
-pub returns : goal.returns
-returns c = fixed_findings_are_one_list

@@ -1,5 +1,0 @@
-use Rattle.own_table.proofs.Proved.{parts_of_leaves_have_none}
-use Rattle.own_table.proofs.laws.parts_of_leaves_have_none.Goals as goal
-
-pub returns : goal.returns
-returns c = parts_of_leaves_have_none

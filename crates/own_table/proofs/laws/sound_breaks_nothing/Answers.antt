@@ -1,5 +1,0 @@
-use Rattle.own_table.proofs.Proved.{sound_breaks_nothing}
-use Rattle.own_table.proofs.laws.sound_breaks_nothing.Goals as goal
-
-pub returns : goal.returns
-returns c = sound_breaks_nothing

@@ -1,5 +1,0 @@
-use Rattle.own_table.proofs.Proved.{traces_exist}
-use Rattle.own_table.proofs.laws.traces_exist.Goals as goal
-
-pub returns : goal.returns
-returns c = traces_exist

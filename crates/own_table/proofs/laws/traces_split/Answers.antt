@@ -1,5 +1,0 @@
-use Rattle.own_table.proofs.Proved.{traces_split}
-use Rattle.own_table.proofs.laws.traces_split.Goals as goal
-
-pub returns : goal.returns
-returns c = traces_split

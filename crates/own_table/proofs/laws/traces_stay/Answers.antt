@@ -1,5 +1,0 @@
-use Rattle.own_table.proofs.Proved.{traces_stay}
-use Rattle.own_table.proofs.laws.traces_stay.Goals as goal
-
-pub returns : goal.returns
-returns c = traces_stay

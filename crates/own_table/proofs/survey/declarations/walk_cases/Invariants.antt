@@ -1,7 +1,0 @@
-use Rattle.std.proofs.Common.{◌≡◌, drop}
-use Rattle.own_table.specs.Names.{written_in}
-use Rattle.own_table.specs.TextWalks.{cases_walk}
-use Rattle.own_table.proofs.survey.declarations.walk_cases.Given as goal
-
-abbrev pub invariant-loop-case : goal.invariant-loop-case
-invariant-loop-case l = cases_walk (written_in l.fn.names) l.fn.noncopyable (drop l.case-index l.cases) l.survey ≡ cases_walk (written_in l.fn.names) l.fn.noncopyable l.cases l.fn.survey

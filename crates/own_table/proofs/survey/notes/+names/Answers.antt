@@ -1,7 +1,0 @@
-use Rattle.std.proofs.Common.{add-one}
-use Rattle.own_table.proofs.Walked.{pushed, next_part}
-use Rattle.own_table.proofs.survey.notes.+names.Goals as goal
-
-pub push_parts-loop-part-preserved : goal.push_parts-loop-part-preserved
-push_parts-loop-part-preserved t c =
-    rw add-one (pushed _ _ _ _ _ _ c.loop-part.invariant c.in_ok-push_names.ensures (next_part c.args.parts.now c.loop-part.part-index c.part-item.result c.loop-part-test.true c.part-item.is))

@@ -1,5 +1,0 @@
-use Rattle.own_table.proofs.Walked.{arg_count_of}
-use Rattle.own_table.proofs.survey.notes.note_call.Goals as goal
-
-pub returns : goal.returns
-returns c = rw (arg_count_of c.args.arguments.now) c.note_print.ensures
