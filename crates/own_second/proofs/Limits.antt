@@ -6,6 +6,7 @@ use Rattle.wasm_form.specs.declared.instr.Instr.TheFolds.{map-Instr}
 use Rattle.wasm_form.specs.declared.instr.Instr.TheOpen.{Instr-F}
 use Rattle.wasm_form.specs.declared.instr.Instr.TheOpen as F
 use Rattle.wasm_form.specs.declared.instr.Instr.TheVariants as i
+use Rattle.wasm_form.specs.declared.limits.TheConstants.{MOST_LOCALS, MOST_LABELS}
 use Rattle.wasm_form.specs.declared.module.CodeEntry.{CodeEntry}
 use Rattle.wasm_form.specs.declared.types.FunctionType.{FunctionType}
 use Rattle.wasm_form.specs.declared.types.ValueType.TheVariants as type
@@ -149,7 +150,7 @@ some_is : {A : Type 0} (x y : A) → Some x ≡ Some y → x ≡ y
 some_is x y e = cc
 
 -- main is the only function, and has index 0 among those that are defined
-only_function : (locals : ℕ) (code : List Instr) → locals ≤ 4400 → nest code ≤ 1024
+only_function : (locals : ℕ) (code : List Instr) → locals ≤ MOST_LOCALS → nest code ≤ MOST_LABELS
     → (k : ℕ) (t : FunctionType) (f : CodeEntry) → defined_type (module_with locals code) k ≡ Some t → slice_get (module_with locals code).codes k ≡ Some f → FunctionIsWithin t f
 only_function locals code few flat zero t f is_type is_code =
     let T : FunctionType = record { parameters = []; result = None } in
@@ -161,7 +162,7 @@ only_function locals code few flat zero t f is_type is_code =
     subst P same_type (subst Q same_code (record { locals = omega arith; labels = flat }))
 only_function locals code few flat (suc k) t f is_type is_code = absurd (cc)
 
-module_within : (locals : ℕ) (code : List Instr) → locals ≤ 4400 → nest code ≤ 1024 → IsWithin (module_with locals code)
+module_within : (locals : ℕ) (code : List Instr) → locals ≤ MOST_LOCALS → nest code ≤ MOST_LABELS → IsWithin (module_with locals code)
 module_within locals code few flat = record {
   main = record { index = 3; type = record { parameters = []; result = None }; code = _; exported = refl; defined = omega arith; has_type = refl; has_code = refl; parameters = refl; result = refl };
   functions = only_function locals code few flat;

@@ -7,6 +7,7 @@ use Rattle.std.specs.Fmt.{signed_decimal}
 use Rattle.std.proofs.lemmas.Bool.{lt-ltb}
 use Rattle.wasm_form.specs.declared.instr.Instr.{Instr}
 use Rattle.wasm_form.specs.declared.instr.Instr.TheVariants as i
+use Rattle.wasm_form.specs.declared.limits.TheConstants.{MOST_OPERANDS}
 use Rattle.wasm_form.specs.declared.module.Module.{Module}
 use Rattle.wasm_form.specs.declared.types.Value.{Value}
 use Rattle.wasm_form.specs.declared.types.Value.TheVariants.{I32, I64}
@@ -36,12 +37,12 @@ module _ (m : Module) (input : List ℤ) where
   pub puts64 : (n : ℕ) (code : List Instr) (vs ls : List Value) → length vs < 1000
       → step m (on main input (i.I64Const n ∷ code) vs ls) ≡ Goes (on main input code (I64 n ∷ vs) ls)
   unfolding step act pushed
-  puts64 n code vs ls few = let lt : length vs + 0 < 1048576 = omega arith in rw (out_i64_const n, lt-ltb _ _ lt) refl
+  puts64 n code vs ls few = let lt : length vs + 0 < MOST_OPERANDS = omega arith in rw (out_i64_const n, lt-ltb _ _ lt) refl
 
   pub gets : (x : ℕ) (v : Value) (code : List Instr) (vs ls : List Value) → slice_get ls x ≡ Some v → length vs < 1000
       → step m (on main input (i.LocalGet x ∷ code) vs ls) ≡ Goes (on main input code (v ∷ vs) ls)
   unfolding step act local_get pushed
-  gets x v code vs ls e few = let lt : length vs + 0 < 1048576 = omega arith in rw (out_local_get x, e, lt-ltb _ _ lt) refl
+  gets x v code vs ls e few = let lt : length vs + 0 < MOST_OPERANDS = omega arith in rw (out_local_get x, e, lt-ltb _ _ lt) refl
 
   pub sets : (x n old : ℕ) (code : List Instr) (vs ls : List Value) → slice_get ls x ≡ Some (I64 old)
       → step m (on main input (i.LocalSet x ∷ code) (I64 n ∷ vs) ls) ≡ Goes (on main input code vs (slice_set ls x (I64 n)))
@@ -85,7 +86,7 @@ module _ (m : Module) (input : List ℤ) where
   pub puts32 : (layers : List Layer) (n : ℕ) (code : List Instr) (vs ls : List Value) → length vs + below_all layers < 1000
       → step m (on layers input (i.I32Const n ∷ code) vs ls) ≡ Goes (on layers input code (I32 n ∷ vs) ls)
   unfolding step act pushed
-  puts32 layers n code vs ls few = let lt : length vs + below_all layers < 1048576 = omega arith in rw (out_i32_const n, lt-ltb _ _ lt) refl
+  puts32 layers n code vs ls few = let lt : length vs + below_all layers < MOST_OPERANDS = omega arith in rw (out_i32_const n, lt-ltb _ _ lt) refl
 
   pub finishes : (ls : List Value) → step m (on main input [] [] ls) ≡ Ends
   unfolding step leave branch

@@ -13,7 +13,7 @@ use own_tree::tree::{
     Argument, Block, Declaration, Deinitializer, Expr, Passed, Path, Root, Stmt, StructMember, Tree,
 };
 use own_tree::{Bytes, Row};
-use sqlite_items::Items;
+use sqlite_items::{Boxed, Items};
 use std::alloc::{AllocError, Global};
 use wasm_form::{
     CodeEntry, Export, ExportKind, FunctionType, HostCall, Import, Instr, LocalGroup, Module,
@@ -98,11 +98,13 @@ fn push_addition(alloc: Global, code: &mut Vec<Instr>, at: u32) -> Result<(), Al
     ensures { OnOk result (code.new.items ≡ code.old.items ++ add_code at) }
 {
     let trap = vec![in alloc; Instr::I32Const(1), Instr::I32Const(at), Instr::Call(TRAP)]?;
+    let trap = Boxed::new(alloc, Items::from_vec(trap))?;
+    let go_on = Boxed::new(alloc, Items::new(alloc))?;
     code.push(Instr::I64Add)?;
     code.push(Instr::LocalTee(0))?;
     code.push(Instr::I64Const(0))?;
     code.push(Instr::I64LtS)?;
-    code.push(Instr::If(None, Items::from_vec(trap), Items::new(alloc)))?;
+    code.push(Instr::If(None, trap, go_on))?;
     code.push(Instr::LocalGet(0))?;
     Ok(())
 }
