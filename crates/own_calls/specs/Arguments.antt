@@ -14,7 +14,6 @@ use Rattle.own_tree.specs.declared.typed.ParamInfo.{ParamInfo}
 use Rattle.own_tree.specs.declared.typed.Passing.{Passing}
 use Rattle.own_tree.specs.declared.typed.Passing.TheVariants as passing
 use Rattle.own_shapes.specs.Types.{Shape, copyable}
-use Rattle.own_calls.specs.declared.arguments.TheConstants.{ARGUMENTS_DIFFER}
 use Rattle.own_calls.specs.declared.error.TypeError.{TypeError}
 use Rattle.own_calls.specs.declared.error.TypeError.TheVariants as type_error
 
@@ -103,6 +102,6 @@ passing_of shape p =
 
 -- T13 at the call, of arguments that do not agree; memory may be refused of any
 abbrev pub IsRefusal : List ParamInfo → List ArgInfo → Span → TypeError → Type 0
-IsRefusal ps arguments at (type_error.BadType code place) = (code ≡ ARGUMENTS_DIFFER) × (place ≡ at) × (arguments_agree at.end ps arguments ≡ false)
+IsRefusal ps arguments at (type_error.BadType code place) = (code ≡ 13) × (place ≡ at) × (arguments_agree at.end ps arguments ≡ false)
 IsRefusal ps arguments at (type_error.Uncovered place missing) = ⊥
 IsRefusal ps arguments at type_error.Memory = Unit {0}

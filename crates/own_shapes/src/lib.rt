@@ -9,5 +9,6 @@ pub mod laws;
 pub use counted::Counted;
 pub use info::{CaseInfo, FieldInfo, TypeInfo};
 pub use laws::{
-    leaves_are_apart, opened_leaves_are_apart, parts_are_no_larger, places_are_ordered, shapes_unfold
+    leaves_are_apart, opened_leaves_are_apart, parts_are_no_larger, places_are_ordered,
+    shapes_unfold,
 };

@@ -174,6 +174,6 @@ module _ (file : File) (d : Declared) (i : In (declared_types file.declarations)
   text_deinit has =
       let Q : Part → Type 0 = λ p. (at : Span) × (p ≡ a_lifetime (d.noncopyable && not d.is_enum) at) in
       let t = in_text Q d (λ h ms of.
-          let first = deinit_in h ms (of.deinit ∙ has) in
-          (a_lifetime h.takes_deinit (word_of 6 first.0), first.1, word_of 6 first.0, ap (λ b. a_lifetime b (word_of 6 first.0)) of.takes_deinit)) file i in
+      let first = deinit_in h ms (of.deinit ∙ has) in
+      (a_lifetime h.takes_deinit (word_of 6 first.0), first.1, (word_of 6 first.0, ap (λ b. a_lifetime b (word_of 6 first.0)) of.takes_deinit))) file i in
       (t.2.0, subst (λ p. In (file_parts file) p) t.2.1 t.1)

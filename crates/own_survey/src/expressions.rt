@@ -6,12 +6,12 @@ ghost use Rattle.own_survey.specs.Names.{written_in};
 ghost use Rattle.own_survey.specs.Parts.{local_names};
 ghost use Rattle.own_survey.specs.Walks.{exp_walk, given_walk, args_walk, closure_walk, stm_walk, stms_walk, when_walk, clauses_walk, block_walk, scope_walk, head_view};
 
-use crate::survey::Survey;
 use crate::names::TypeNames;
 use crate::notes::{
     note_call, note_closing_call, note_closure, note_locals, note_pattern, note_patterns,
     note_print, note_written,
 };
+use crate::survey::Survey;
 use own_tree::tree::{Argument, Block, Clause, Closure, Expr, Head, Passed, Stmt};
 use std::alloc::{AllocError, Global};
 

@@ -9,9 +9,7 @@ ghost use Rattle.own_shapes.specs.Types.{declared_types};
 ghost use Rattle.own_survey.specs.TextWalks.{top_walk, main_walk, declaration_walk, declarations_walk, file_walk};
 ghost use Rattle.own_survey.specs.Walks.{scope_walk};
 
-use crate::declarations::{
-    fault_unless, walk_enum_members, walk_function, walk_struct_members,
-};
+use crate::declarations::{fault_unless, walk_enum_members, walk_function, walk_struct_members};
 use crate::names::TypeNames;
 use crate::notes::note_scope;
 use crate::survey::{Judgement, Survey};

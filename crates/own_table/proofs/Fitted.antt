@@ -39,8 +39,7 @@ each_content ts noncopyable [] e = (refl, λ f. refl)
 each_content ts noncopyable (ty ∷ tys) e =
     let both = and_parts (is_content ts noncopyable ty) (list_all (is_content ts noncopyable) tys) e in
     let here = and_parts (is_part (length ts) ty) (noncopyable || is_copyable_among ts ty) both.0 in
-    let rest = each_content ts noncopyable tys both.1 in
-    (
+    let rest = each_content ts noncopyable tys both.1 in (
       and_from (is_part (length ts) ty) (list_all (is_part (length ts)) tys) here.0 rest.0,
       λ f. and_from (is_copyable_among ts ty) (list_all (is_copyable_among ts) tys) (sym (ap (λ b. b || is_copyable_among ts ty) f) ∙ here.1) (rest.1 f),
     )

@@ -39,10 +39,10 @@ pub record AreWhole (types : Types) : Type 0 where
   pub few : types.count ≤ MOST_TYPES
   pub struct_shape : (k : ℕ) → k < types.count → types.is_enum (type.Named k) ≡ false
       → (head : TypeHead) × (types.shape (type.Named k) ≡ struct head (shapes_of types.shape (field_types (types.properties (type.Named k)))))
-        × IsHeadOf types k head
+      × IsHeadOf types k head
   pub enum_shape : (k : ℕ) → k < types.count → types.is_enum (type.Named k) ≡ true
       → (head : TypeHead) × (types.shape (type.Named k) ≡ enum head (payloads_of types.shape (case_types (types.cases (type.Named k)))))
-        × IsHeadOf types k head
+      × IsHeadOf types k head
   -- a struct has no cases, and an enum no stored properties
   pub struct_cases : (k : ℕ) → k < types.count → types.is_enum (type.Named k) ≡ false → types.cases (type.Named k) ≡ []
   pub enum_properties : (k : ℕ) → k < types.count → types.is_enum (type.Named k) ≡ true → types.properties (type.Named k) ≡ []

@@ -2,9 +2,9 @@
 
 ghost use Rattle.std.specs.Prelude.{◌≡◌, ◌+◌, ◌*◌, ◌≤◌, ◌<◌, All, length, Some, None, IfOk, IfSome, OnSome};
 ghost use Rattle.own_tree.specs.declared.limits.TheConstants.{MOST_FIELDS, MOST_PARAMETERS, MOST_TYPES, MOST_TYPE_SLOTS};
+ghost use Rattle.own_shapes.specs.Types.{NoneContainsItself, PartsAreTypes, field_types};
 ghost use Rattle.own_table.specs.Extents.{HasFewParts, HaveFewParts, AreKnown, IsSmall, part_slots, sum_of_parts, most_of_cases, slots_by_parts, kept_within, beyond_M8, first_over_M8};
 ghost use Rattle.own_table.specs.Order.{IsContainmentOrder};
-ghost use Rattle.own_shapes.specs.Types.{NoneContainsItself, PartsAreTypes, field_types};
 
 use own_shapes::{CaseInfo, FieldInfo, TypeInfo};
 use own_tree::Ty;

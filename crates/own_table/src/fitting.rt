@@ -2,8 +2,8 @@
 
 ghost use Rattle.std.specs.Prelude.{◌≡◌, length};
 ghost use Rattle.std.specs.List.{list_all};
-ghost use Rattle.own_table.specs.Fitting.{are_fit, has_content, has_few_parts, has_few_payloads, has_own_deinit, has_own_parts, is_content, is_fit};
 ghost use Rattle.own_shapes.specs.Types.{all_case_types, field_types};
+ghost use Rattle.own_table.specs.Fitting.{are_fit, has_content, has_few_parts, has_few_payloads, has_own_deinit, has_own_parts, is_content, is_fit};
 
 use own_shapes::{CaseInfo, FieldInfo, TypeInfo};
 use own_tree::Ty;
@@ -109,10 +109,7 @@ fn has_own_parts(info: &TypeInfo) -> bool
 fn is_fit(info: &TypeInfo, types: &[TypeInfo]) -> bool
     ensures { result ≡ is_fit types.now info.now }
 {
-    has_few_parts(info)
-        && has_own_deinit(info)
-        && has_own_parts(info)
-        && has_content(info, types)
+    has_few_parts(info) && has_own_deinit(info) && has_own_parts(info) && has_content(info, types)
 }
 
 /// Whether types are within M4, M5 and M7, T01, T04 and T05 hold of them, and each has the parts of its

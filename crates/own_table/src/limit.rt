@@ -4,13 +4,12 @@ ghost use Rattle.std.specs.Prelude.{◌≡◌, ◌≤◌, ◌<◌, ◌++◌, ◌
 ghost use Rattle.own_tree.specs.declared.limits.TheConstants.{MOST_FIELDS, MOST_TYPES};
 ghost use Rattle.own_tree.specs.View.{declaration_view};
 ghost use Rattle.own_shapes.specs.Counts.{first_over, too_many};
+ghost use Rattle.own_shapes.specs.Types.{declared_types};
 ghost use Rattle.own_survey.specs.Limits.{type_names};
 ghost use Rattle.own_table.specs.TypeLimits.{counts_of, part_count};
-ghost use Rattle.own_shapes.specs.Types.{declared_types};
 
 use crate::extent::Over;
-use own_shapes::TypeInfo;
-use own_shapes::Counted;
+use own_shapes::{Counted, TypeInfo};
 use own_tree::limits::{MOST_FIELDS, MOST_TYPES};
 use own_tree::tree::Declaration;
 use own_tree::{Row, Span};

@@ -2,12 +2,12 @@
 
 ghost use Rattle.std.specs.Prelude.{◌≡◌, ◌≤◌, ◌∷◌, ◌++◌, [], None, length, map, slice_get, IfOk, OnOk};
 ghost use Rattle.own_tree.specs.declared.limits.TheConstants.{MOST_FIELDS, MOST_TYPES};
+ghost use Rattle.own_shapes.specs.Types.{field_types};
 ghost use Rattle.own_table.specs.declared.measure.Unmeasured.TheVariants as unmeasured;
 ghost use Rattle.own_table.specs.ByParts.{all_parts_have_values, field_leaves, fields_have_values, holds_by_parts, leaves_at, leaves_by_parts, measure_by_parts, one_case_has_values, one_case_holds, one_holds, part_has_value, part_holds, part_leaves, slots_at, value_by_parts};
 ghost use Rattle.own_table.specs.Extents.{AreKnown, HasFewParts, HaveFewParts, first_over_M8};
 ghost use Rattle.own_table.specs.Measures.{AreMeasures};
 ghost use Rattle.own_table.specs.Order.{IsContainmentOrder};
-ghost use Rattle.own_shapes.specs.Types.{field_types};
 
 use crate::extent::Over;
 use own_shapes::{CaseInfo, FieldInfo, TypeInfo};
@@ -213,15 +213,15 @@ fn payloads_have_values(payloads: &[Ty], measures: &[Measure]) -> bool
 fn one_case_has_values(cases: &[CaseInfo], measures: &[Measure]) -> bool
     ensures { result ≡ one_case_has_values measures.now cases.now }
 {
-    cases
-        .iter()
-        .any(|case| payloads_have_values(case.payloads.as_slice(), measures))
+    cases.iter().any(|case| payloads_have_values(case.payloads.as_slice(), measures))
 }
 
 fn fields_have_values(fields: &[FieldInfo], measures: &[Measure]) -> bool
     ensures { result ≡ fields_have_values measures.now fields.now }
 {
-    fields.iter().all(|field| part_has_value(field.ty, measures))
+    fields
+        .iter()
+        .all(|field| part_has_value(field.ty, measures))
 }
 
 /// Whether a type has a value: an enum without cases has none, nor has a type that needs one of such.

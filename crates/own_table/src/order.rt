@@ -3,13 +3,13 @@
 
 ghost use Rattle.std.specs.Prelude.{vec_len, ◌≤◌, ◌≡◌, ◌≢◌, ◌∷◌, [], ◌++◌, ◌<◌, ◌^◌, length, slice_get, Some, None, Contains, IfOk, IfErr, OnOk, MatchOption};
 ghost use Rattle.own_tree.specs.declared.limits.TheConstants.{MOST_TYPES};
+ghost use Rattle.own_shapes.specs.Types.{PartsAreTypes, contained, field_types, all_case_types};
 ghost use Rattle.own_table.specs.declared.mark.Mark.TheVariants as mark;
 ghost use Rattle.own_table.specs.Order.{HasPart, ComeAfterParts, IsContainmentOrder, IsCircle, first_unsettled, unsettled};
 ghost use Rattle.own_table.specs.Settling.{Settles, SettlesWith, IsOpened, IsOpenedBelow, IsSettledAs, Keeps, work_of, work_with};
-ghost use Rattle.own_shapes.specs.Types.{PartsAreTypes, contained, field_types, all_case_types};
 
-use own_shapes::{CaseInfo, FieldInfo, TypeInfo};
 use crate::mark::{Mark, Unordered};
+use own_shapes::{CaseInfo, FieldInfo, TypeInfo};
 use own_tree::Ty;
 use std::alloc::{AllocError, Global};
 

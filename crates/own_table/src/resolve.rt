@@ -4,13 +4,13 @@ ghost use Rattle.std.specs.Prelude.{true, false, ◌≡◌, ◌≤◌, ◌++◌,
 ghost use Rattle.std.specs.List.{list_any};
 ghost use Rattle.own_tree.specs.declared.limits.TheConstants.{MOST_TYPES};
 ghost use Rattle.own_tree.specs.View.{declaration_view, enum_member_view, struct_member_view};
+ghost use Rattle.own_shapes.specs.Types.{declared_as, declared_types, is_var, resolved_by, resolved_case, resolved_field, resolved_types};
 ghost use Rattle.own_survey.specs.Numbers.{IsNumbering, written_by};
 ghost use Rattle.own_table.specs.Resolving.{declared_infos, is_deinitializer, member_cases, member_fields};
-ghost use Rattle.own_shapes.specs.Types.{declared_as, declared_types, is_var, resolved_by, resolved_case, resolved_field, resolved_types};
 
+use indexmap::IndexMap;
 use own_shapes::{CaseInfo, FieldInfo, TypeInfo};
 use own_survey::numbers::{type_numbers, written_type};
-use indexmap::IndexMap;
 use own_tree::tree::{
     CaseItem, Declaration, EnumDeclaration, EnumMember, Field, Keyword, Name, StructDeclaration,
     StructMember,

@@ -2,19 +2,18 @@
 
 ghost use Rattle.std.specs.Prelude.{◌≡◌, length, ◌≤◌};
 ghost use Rattle.own_tree.specs.declared.limits.TheConstants.{MOST_TYPES};
+ghost use Rattle.own_shapes.specs.Types.{NoneContainsItself, PartsAreTypes};
 ghost use Rattle.own_table.specs.Extents.{HaveFewParts};
 ghost use Rattle.own_table.specs.Measures.{AreMeasures, AreWithin};
 ghost use Rattle.own_table.specs.Proper.{AreProper};
-ghost use Rattle.own_shapes.specs.Types.{NoneContainsItself, PartsAreTypes};
 
 use crate::error::Unfit;
 use crate::extent::{first_over, known_slots};
 use crate::fitting::are_fit;
-use own_shapes::{CaseInfo, FieldInfo, TypeInfo};
-use crate::measure::Measure;
 use crate::mark::Unordered;
-use crate::measure::{Unmeasured, measures};
+use crate::measure::{Measure, Unmeasured, measures};
 use crate::order::containment_order;
+use own_shapes::{CaseInfo, FieldInfo, TypeInfo};
 use own_tree::{Row, Ty};
 use std::alloc::Global;
 

@@ -228,7 +228,10 @@ fn a_declaration_has_the_parts_of_its_kind(rt: HostRuntime) -> Result<(), Fail> 
     let part = struct_of(alloc, Kind::Noncopyable, &[Ty::Int]);
     types.push(part.ok().ok_or("memory")?).ok().ok_or("memory")?;
     let whole = struct_of(alloc, Kind::Copyable, &[Ty::Named(0)]);
-    types.push(whole.ok().ok_or("memory")?).ok().ok_or("memory")?;
+    types
+        .push(whole.ok().ok_or("memory")?)
+        .ok()
+        .ok_or("memory")?;
     assert_eq!(rt; unfit(alloc, types), Some(Unfit::Parts));
     // T05: an enum with a `deinit`.
     let mut info = enum_of(alloc, &[&[]]).ok().ok_or("memory")?;
