@@ -5,6 +5,7 @@ ghost use Rattle.own_tree.specs.View.{expr_view, stmt_view, block_view};
 ghost use Rattle.own_grammar.specs.Nesting.{nest, nest_stm, nest_blk};
 ghost use Rattle.own_grammar.specs.Reading as spec;
 ghost use Rattle.own_expr.specs.Gives.{Gives};
+ghost use Rattle.own_expr.specs.Reads.{reader};
 
 use super::Read;
 use super::blocks::body_goal;
@@ -36,7 +37,7 @@ fn bound_of<'a>(
     depth: u32,
 ) -> Read<'a, Stmt>
     requires limit { depth < MOST_NESTING }
-    ensures gives { Gives (λ x. (stmt_view x.0, x.2.now)) result (spec.bound_with (spec.read MOST_NESTING) depth from.now keyword name written rest.now) }
+    ensures gives { Gives (λ x. (stmt_view x.0, x.2.now)) result (spec.bound_with reader depth from.now keyword name written rest.now) }
     ensures height { IfOk result (λ x. x.1 ≡ nest_stm (stmt_view x.0)) }
     ensures fits { IfOk result (λ x. depth + x.1 ≤ MOST_NESTING) }
     ensures shorter { IfOk result (λ x. length x.2.now ≤ length rest.now) }
@@ -55,7 +56,7 @@ fn bound_of<'a>(
 fn let_of(alloc: Global, rest: &[Token], keyword: Keyword, depth: u32) -> Read<'_, Stmt>
     requires limit { depth < MOST_NESTING }
     requires some { 0 < length rest.now }
-    ensures gives { Gives (λ x. (stmt_view x.0, x.2.now)) result (spec.let_with (spec.read MOST_NESTING) depth rest.now keyword) }
+    ensures gives { Gives (λ x. (stmt_view x.0, x.2.now)) result (spec.let_with reader depth rest.now keyword) }
     ensures height { IfOk result (λ x. x.1 ≡ nest_stm (stmt_view x.0)) }
     ensures fits { IfOk result (λ x. depth + x.1 ≤ MOST_NESTING) }
     ensures shorter { IfOk result (λ x. length x.2.now < length rest.now) }
@@ -74,7 +75,7 @@ fn let_of(alloc: Global, rest: &[Token], keyword: Keyword, depth: u32) -> Read<'
 fn ignore_of(alloc: Global, rest: &[Token], depth: u32) -> Read<'_, Stmt>
     requires limit { depth < MOST_NESTING }
     requires some { 0 < length rest.now }
-    ensures gives { Gives (λ x. (stmt_view x.0, x.2.now)) result (spec.ignore_with (spec.read MOST_NESTING) depth rest.now) }
+    ensures gives { Gives (λ x. (stmt_view x.0, x.2.now)) result (spec.ignore_with reader depth rest.now) }
     ensures height { IfOk result (λ x. x.1 ≡ nest_stm (stmt_view x.0)) }
     ensures fits { IfOk result (λ x. depth + x.1 ≤ MOST_NESTING) }
     ensures shorter { IfOk result (λ x. length x.2.now < length rest.now) }
@@ -106,7 +107,7 @@ fn else_of<'a>(
     requires condition_fits { depth + height < MOST_NESTING }
     requires block { block_height ≡ nest_blk (block_view block) }
     requires block_fits { depth + block_height < MOST_NESTING }
-    ensures gives { Gives (λ x. (stmt_view x.0, x.2.now)) result (spec.else_with (spec.read MOST_NESTING) depth from.now (expr_view condition) (block_view block) rest.now) }
+    ensures gives { Gives (λ x. (stmt_view x.0, x.2.now)) result (spec.else_with reader depth from.now (expr_view condition) (block_view block) rest.now) }
     ensures height { IfOk result (λ x. x.1 ≡ nest_stm (stmt_view x.0)) }
     ensures fits { IfOk result (λ x. depth + x.1 ≤ MOST_NESTING) }
     ensures shorter { IfOk result (λ x. length x.2.now ≤ length rest.now) }
@@ -139,7 +140,7 @@ fn else_of<'a>(
 fn if_of(alloc: Global, rest: &[Token], depth: u32) -> Read<'_, Stmt>
     requires limit { depth < MOST_NESTING }
     requires some { 0 < length rest.now }
-    ensures gives { Gives (λ x. (stmt_view x.0, x.2.now)) result (spec.if_with (spec.read MOST_NESTING) depth rest.now) }
+    ensures gives { Gives (λ x. (stmt_view x.0, x.2.now)) result (spec.if_with reader depth rest.now) }
     ensures height { IfOk result (λ x. x.1 ≡ nest_stm (stmt_view x.0)) }
     ensures fits { IfOk result (λ x. depth + x.1 ≤ MOST_NESTING) }
     ensures shorter { IfOk result (λ x. length x.2.now < length rest.now) }
@@ -168,7 +169,7 @@ fn if_of(alloc: Global, rest: &[Token], depth: u32) -> Read<'_, Stmt>
 fn while_of(alloc: Global, rest: &[Token], depth: u32) -> Read<'_, Stmt>
     requires limit { depth < MOST_NESTING }
     requires some { 0 < length rest.now }
-    ensures gives { Gives (λ x. (stmt_view x.0, x.2.now)) result (spec.while_with (spec.read MOST_NESTING) depth rest.now) }
+    ensures gives { Gives (λ x. (stmt_view x.0, x.2.now)) result (spec.while_with reader depth rest.now) }
     ensures height { IfOk result (λ x. x.1 ≡ nest_stm (stmt_view x.0)) }
     ensures fits { IfOk result (λ x. depth + x.1 ≤ MOST_NESTING) }
     ensures shorter { IfOk result (λ x. length x.2.now < length rest.now) }
@@ -193,7 +194,7 @@ fn while_of(alloc: Global, rest: &[Token], depth: u32) -> Read<'_, Stmt>
 fn repeat_of(alloc: Global, rest: &[Token], depth: u32) -> Read<'_, Stmt>
     requires limit { depth < MOST_NESTING }
     requires some { 0 < length rest.now }
-    ensures gives { Gives (λ x. (stmt_view x.0, x.2.now)) result (spec.repeat_with (spec.read MOST_NESTING) depth rest.now) }
+    ensures gives { Gives (λ x. (stmt_view x.0, x.2.now)) result (spec.repeat_with reader depth rest.now) }
     ensures height { IfOk result (λ x. x.1 ≡ nest_stm (stmt_view x.0)) }
     ensures fits { IfOk result (λ x. depth + x.1 ≤ MOST_NESTING) }
     ensures shorter { IfOk result (λ x. length x.2.now < length rest.now) }
@@ -233,7 +234,7 @@ fn upper_of<'a>(
     requires low { height ≡ nest (expr_view low) }
     requires low_fits { depth + height < MOST_NESTING }
     requires some { 0 < length rest.now }
-    ensures gives { Gives (λ x. (stmt_view x.0, x.2.now)) result (spec.upper_with (spec.read MOST_NESTING) depth from.now name (expr_view low) operator rest.now) }
+    ensures gives { Gives (λ x. (stmt_view x.0, x.2.now)) result (spec.upper_with reader depth from.now name (expr_view low) operator rest.now) }
     ensures height { IfOk result (λ x. x.1 ≡ nest_stm (stmt_view x.0)) }
     ensures fits { IfOk result (λ x. depth + x.1 ≤ MOST_NESTING) }
     ensures shorter { IfOk result (λ x. length x.2.now ≤ length rest.now) }
@@ -265,7 +266,7 @@ fn lower_of<'a>(
     depth: u32,
 ) -> Read<'a, Stmt>
     requires limit { depth < MOST_NESTING }
-    ensures gives { Gives (λ x. (stmt_view x.0, x.2.now)) result (spec.lower_with (spec.read MOST_NESTING) depth from.now name rest.now) }
+    ensures gives { Gives (λ x. (stmt_view x.0, x.2.now)) result (spec.lower_with reader depth from.now name rest.now) }
     ensures height { IfOk result (λ x. x.1 ≡ nest_stm (stmt_view x.0)) }
     ensures fits { IfOk result (λ x. depth + x.1 ≤ MOST_NESTING) }
     ensures shorter { IfOk result (λ x. length x.2.now ≤ length rest.now) }
@@ -282,7 +283,7 @@ fn lower_of<'a>(
 fn for_of(alloc: Global, rest: &[Token], depth: u32) -> Read<'_, Stmt>
     requires limit { depth < MOST_NESTING }
     requires some { 0 < length rest.now }
-    ensures gives { Gives (λ x. (stmt_view x.0, x.2.now)) result (spec.for_with (spec.read MOST_NESTING) depth rest.now) }
+    ensures gives { Gives (λ x. (stmt_view x.0, x.2.now)) result (spec.for_with reader depth rest.now) }
     ensures height { IfOk result (λ x. x.1 ≡ nest_stm (stmt_view x.0)) }
     ensures fits { IfOk result (λ x. depth + x.1 ≤ MOST_NESTING) }
     ensures shorter { IfOk result (λ x. length x.2.now < length rest.now) }
@@ -303,7 +304,7 @@ fn for_of(alloc: Global, rest: &[Token], depth: u32) -> Read<'_, Stmt>
 fn switch_of(alloc: Global, rest: &[Token], depth: u32) -> Read<'_, Stmt>
     requires limit { depth < MOST_NESTING }
     requires some { 0 < length rest.now }
-    ensures gives { Gives (λ x. (stmt_view x.0, x.2.now)) result (spec.switch_with (spec.read MOST_NESTING) depth rest.now) }
+    ensures gives { Gives (λ x. (stmt_view x.0, x.2.now)) result (spec.switch_with reader depth rest.now) }
     ensures height { IfOk result (λ x. x.1 ≡ nest_stm (stmt_view x.0)) }
     ensures fits { IfOk result (λ x. depth + x.1 ≤ MOST_NESTING) }
     ensures shorter { IfOk result (λ x. length x.2.now < length rest.now) }
@@ -331,7 +332,7 @@ fn switch_of(alloc: Global, rest: &[Token], depth: u32) -> Read<'_, Stmt>
 fn return_of(alloc: Global, rest: &[Token], depth: u32) -> Read<'_, Stmt>
     requires limit { depth < MOST_NESTING }
     requires some { 0 < length rest.now }
-    ensures gives { Gives (λ x. (stmt_view x.0, x.2.now)) result (spec.return_with (spec.read MOST_NESTING) depth rest.now) }
+    ensures gives { Gives (λ x. (stmt_view x.0, x.2.now)) result (spec.return_with reader depth rest.now) }
     ensures height { IfOk result (λ x. x.1 ≡ nest_stm (stmt_view x.0)) }
     ensures fits { IfOk result (λ x. depth + x.1 ≤ MOST_NESTING) }
     ensures shorter { IfOk result (λ x. length x.2.now < length rest.now) }
@@ -360,7 +361,7 @@ fn assign_of(
     requires left { height ≡ nest (expr_view left) }
     requires left_fits { depth + height < MOST_NESTING }
     requires some { 0 < length rest.now }
-    ensures gives { Gives (λ x. (stmt_view x.0, x.2.now)) result (spec.assign_with (spec.read MOST_NESTING) depth (expr_view left) rest.now operator) }
+    ensures gives { Gives (λ x. (stmt_view x.0, x.2.now)) result (spec.assign_with reader depth (expr_view left) rest.now operator) }
     ensures height { IfOk result (λ x. x.1 ≡ nest_stm (stmt_view x.0)) }
     ensures fits { IfOk result (λ x. depth + x.1 ≤ MOST_NESTING) }
     ensures shorter { IfOk result (λ x. length x.2.now ≤ length rest.now) }
@@ -386,7 +387,7 @@ fn assign_of(
 #[tactic(auto, unfolding(own_grammar::specs::Reading::evaluate_with))]
 fn evaluate_of(alloc: Global, rest: &[Token], depth: u32) -> Read<'_, Stmt>
     requires limit { depth < MOST_NESTING }
-    ensures gives { Gives (λ x. (stmt_view x.0, x.2.now)) result (spec.evaluate_with MOST_NESTING (spec.read MOST_NESTING) depth rest.now) }
+    ensures gives { Gives (λ x. (stmt_view x.0, x.2.now)) result (spec.evaluate_with MOST_NESTING reader depth rest.now) }
     ensures height { IfOk result (λ x. x.1 ≡ nest_stm (stmt_view x.0)) }
     ensures fits { IfOk result (λ x. depth + x.1 ≤ MOST_NESTING) }
     ensures shorter { IfOk result (λ x. length x.2.now < length rest.now) }
@@ -403,7 +404,7 @@ fn evaluate_of(alloc: Global, rest: &[Token], depth: u32) -> Read<'_, Stmt>
 #[tactic(auto, unfolding(own_grammar::specs::Reading::simple_with))]
 fn simple_of(alloc: Global, rest: &[Token], depth: u32) -> Read<'_, Stmt>
     requires limit { depth < MOST_NESTING }
-    ensures gives { Gives (λ x. (stmt_view x.0, x.2.now)) result (spec.simple_with MOST_NESTING (spec.read MOST_NESTING) depth rest.now) }
+    ensures gives { Gives (λ x. (stmt_view x.0, x.2.now)) result (spec.simple_with MOST_NESTING reader depth rest.now) }
     ensures height { IfOk result (λ x. x.1 ≡ nest_stm (stmt_view x.0)) }
     ensures fits { IfOk result (λ x. depth + x.1 ≤ MOST_NESTING) }
     ensures shorter { IfOk result (λ x. length x.2.now < length rest.now) }
@@ -430,7 +431,7 @@ fn simple_of(alloc: Global, rest: &[Token], depth: u32) -> Read<'_, Stmt>
 #[tactic(auto, unfolding(own_grammar::specs::Reading::statement_with))]
 pub fn statement_of(alloc: Global, rest: &[Token], depth: u32) -> Read<'_, Stmt>
     requires limit { depth ≤ MOST_NESTING }
-    ensures gives { Gives (λ x. (stmt_view x.0, x.2.now)) result (spec.statement_with MOST_NESTING (spec.read MOST_NESTING) depth rest.now) }
+    ensures gives { Gives (λ x. (stmt_view x.0, x.2.now)) result (spec.statement_with MOST_NESTING reader depth rest.now) }
     ensures height { IfOk result (λ x. x.1 ≡ nest_stm (stmt_view x.0)) }
     ensures fits { IfOk result (λ x. depth + x.1 ≤ MOST_NESTING) }
     ensures shorter { IfOk result (λ x. length x.2.now < length rest.now) }
@@ -462,7 +463,7 @@ pub fn statement_of(alloc: Global, rest: &[Token], depth: u32) -> Read<'_, Stmt>
 #[cycle(parse)]
 fn statement_goal(alloc: Global, rest: &[Token], depth: u32) -> Read<'_, Stmt>
     requires limit { depth ≤ MOST_NESTING }
-    ensures gives { Gives (λ x. (stmt_view x.0, x.2.now)) result (spec.read MOST_NESTING spec.Goal.statement depth rest.now) }
+    ensures gives { Gives (λ x. (stmt_view x.0, x.2.now)) result (reader spec.Goal.statement depth rest.now) }
     ensures height { IfOk result (λ x. x.1 ≡ nest_stm (stmt_view x.0)) }
     ensures fits { IfOk result (λ x. depth + x.1 ≤ MOST_NESTING) }
     ensures shorter { IfOk result (λ x. length x.2.now < length rest.now) }
