@@ -51,7 +51,6 @@ fn let_parts_of<'a>(
     name: Name,
     level: u32,
 ) -> Result<(LetPattern, &'a [Token]), ReadError>
-    requires limit { level ≤ MOST_PATTERN_LEVELS }
     ensures gives { Gives (λ x. (let_pattern_view x.0, x.1.now)) result (spec.let_parts_with MOST_PATTERN_LEVELS (spec.read_pattern MOST_PATTERN_LEVELS) level from.now name rest.now) }
     ensures shorter { IfOk result (λ x. length x.1.now < length rest.now) }
 {
@@ -74,7 +73,6 @@ fn let_case_of(
     rest: &[Token],
     level: u32,
 ) -> Result<(LetPattern, &[Token]), ReadError>
-    requires limit { level ≤ MOST_PATTERN_LEVELS }
     requires some { 0 < length rest.now }
     ensures gives { Gives (λ x. (let_pattern_view x.0, x.1.now)) result (spec.let_case_with MOST_PATTERN_LEVELS (spec.read_pattern MOST_PATTERN_LEVELS) level rest.now) }
     ensures shorter { IfOk result (λ x. length x.1.now < length rest.now) }
@@ -98,7 +96,6 @@ fn let_pattern_of(
     rest: &[Token],
     level: u32,
 ) -> Result<(LetPattern, &[Token]), ReadError>
-    requires limit { level ≤ MOST_PATTERN_LEVELS }
     ensures gives { Gives (λ x. (let_pattern_view x.0, x.1.now)) result (spec.let_pattern_with MOST_PATTERN_LEVELS (spec.read_pattern MOST_PATTERN_LEVELS) level rest.now) }
     ensures shorter { IfOk result (λ x. length x.1.now < length rest.now) }
 {
@@ -121,7 +118,6 @@ fn let_pattern_list(
     rest: &[Token],
     level: u32,
 ) -> Result<(Items<LetPattern>, &[Token]), ReadError>
-    requires limit { level ≤ MOST_PATTERN_LEVELS }
     ensures gives { Gives (λ x. (map let_pattern_view x.0, x.1.now)) result (spec.let_patterns_with MOST_PATTERN_LEVELS (spec.read_pattern MOST_PATTERN_LEVELS) [] level rest.now) }
     ensures shorter { IfOk result (λ x. length x.1.now < length rest.now) }
 {
@@ -144,7 +140,6 @@ fn let_patterns_of(
     rest: &[Token],
     level: u32,
 ) -> Result<(Items<LetPattern>, &[Token]), ReadError>
-    requires limit { level ≤ MOST_PATTERN_LEVELS }
     ensures gives { Gives (λ x. (map let_pattern_view x.0, x.1.now)) result (spec.read_pattern MOST_PATTERN_LEVELS (spec.PatternGoal.let_patterns_on []) level rest.now) }
     ensures shorter { IfOk result (λ x. length x.1.now < length rest.now) }
 {
@@ -158,7 +153,6 @@ pub(crate) fn let_pattern_goal(
     rest: &[Token],
     level: u32,
 ) -> Result<(LetPattern, &[Token]), ReadError>
-    requires limit { level ≤ MOST_PATTERN_LEVELS }
     ensures gives { Gives (λ x. (let_pattern_view x.0, x.1.now)) result (spec.read_pattern MOST_PATTERN_LEVELS spec.PatternGoal.let_pattern level rest.now) }
     ensures shorter { IfOk result (λ x. length x.1.now < length rest.now) }
 {

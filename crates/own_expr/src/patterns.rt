@@ -39,7 +39,6 @@ fn literal_pattern_of(rest: &[Token]) -> Result<(Pattern, &[Token]), ReadError>
 /// `let`, and a name or a case in which names bind.
 #[tactic(auto, unfolding(own_grammar::specs::Reading::bind_with))]
 fn bind_of(alloc: Global, rest: &[Token], level: u32) -> Result<(Pattern, &[Token]), ReadError>
-    requires limit { level ≤ MOST_PATTERN_LEVELS }
     requires some { 0 < length rest.now }
     ensures gives { Gives (λ x. (pattern_view x.0, x.1.now)) result (spec.bind_with (spec.read_pattern MOST_PATTERN_LEVELS) level rest.now) }
     ensures shorter { IfOk result (λ x. length x.1.now < length rest.now) }
@@ -74,7 +73,6 @@ fn parts_of<'a>(
     name: Name,
     level: u32,
 ) -> Result<(Pattern, &'a [Token]), ReadError>
-    requires limit { level ≤ MOST_PATTERN_LEVELS }
     ensures gives { Gives (λ x. (pattern_view x.0, x.1.now)) result (spec.parts_with MOST_PATTERN_LEVELS (spec.read_pattern MOST_PATTERN_LEVELS) level from.now name rest.now) }
     ensures shorter { IfOk result (λ x. length x.1.now < length rest.now) }
 {
@@ -93,7 +91,6 @@ fn parts_of<'a>(
 #[cycle(patterns)]
 #[tactic(auto, unfolding(own_grammar::specs::Reading::case_with))]
 fn case_of(alloc: Global, rest: &[Token], level: u32) -> Result<(Pattern, &[Token]), ReadError>
-    requires limit { level ≤ MOST_PATTERN_LEVELS }
     requires some { 0 < length rest.now }
     ensures gives { Gives (λ x. (pattern_view x.0, x.1.now)) result (spec.case_with MOST_PATTERN_LEVELS (spec.read_pattern MOST_PATTERN_LEVELS) level rest.now) }
     ensures shorter { IfOk result (λ x. length x.1.now < length rest.now) }
@@ -112,12 +109,7 @@ fn case_of(alloc: Global, rest: &[Token], level: u32) -> Result<(Pattern, &[Toke
 
 #[cycle(patterns)]
 #[tactic(auto, unfolding(own_grammar::specs::Reading::pattern_with))]
-fn pattern_of(
-    alloc: Global,
-    rest: &[Token],
-    level: u32,
-) -> Result<(Pattern, &[Token]), ReadError>
-    requires limit { level ≤ MOST_PATTERN_LEVELS }
+fn pattern_of(alloc: Global, rest: &[Token], level: u32) -> Result<(Pattern, &[Token]), ReadError>
     ensures gives { Gives (λ x. (pattern_view x.0, x.1.now)) result (spec.pattern_with MOST_PATTERN_LEVELS (spec.read_pattern MOST_PATTERN_LEVELS) level rest.now) }
     ensures shorter { IfOk result (λ x. length x.1.now < length rest.now) }
 {
@@ -140,7 +132,6 @@ fn pattern_list(
     rest: &[Token],
     level: u32,
 ) -> Result<(Row<Pattern>, &[Token]), ReadError>
-    requires limit { level ≤ MOST_PATTERN_LEVELS }
     ensures gives { Gives (λ x. (map pattern_view x.0, x.1.now)) result (spec.patterns_with MOST_PATTERN_LEVELS (spec.read_pattern MOST_PATTERN_LEVELS) [] level rest.now) }
     ensures shorter { IfOk result (λ x. length x.1.now < length rest.now) }
 {
@@ -165,7 +156,6 @@ pub(crate) fn patterns_of(
     rest: &[Token],
     level: u32,
 ) -> Result<(Row<Pattern>, &[Token]), ReadError>
-    requires limit { level ≤ MOST_PATTERN_LEVELS }
     ensures gives { Gives (λ x. (map pattern_view x.0, x.1.now)) result (spec.read_pattern MOST_PATTERN_LEVELS (spec.PatternGoal.patterns_on []) level rest.now) }
     ensures shorter { IfOk result (λ x. length x.1.now < length rest.now) }
 {

@@ -10,7 +10,7 @@ ghost use Rattle.own_expr.specs.Reads.{reader};
 use super::Read;
 use super::blocks::statements_goal;
 use super::expressions::expression_of;
-use crate::fault::ReadError;
+use crate::fault::{ReadError, without};
 use crate::lines::{closes, label_at, opens};
 use crate::makers::{call, call_closing, call_closure, member};
 use crate::next::{after, here, is_mark, name_at, till};
@@ -166,11 +166,14 @@ fn called_of(
     ensures shorter { IfOk result (λ x. length x.2.now ≤ length rest.now) }
 {
     if !is_mark(Mark::CloseParen, rest) {
-        return Err(ReadError::Syntax(rest.len()));
+        return Err(without(callee, ReadError::Syntax(rest.len())));
     }
     let more = after(rest);
     if closes(context, more) {
-        let (closure, closure_height, last) = closure_of(alloc, more, depth + 1)?;
+        let (closure, closure_height, last) = match closure_of(alloc, more, depth + 1) {
+            Ok(closure) => closure,
+            Err(fault) => return Err(without(callee, fault)),
+        };
         let e = call_closing(alloc, callee, arguments, closure)?;
         let height = height.max(arguments_height.max(closure_height)) + 1;
         return calls_goal(alloc, last, context, e, height, depth);
@@ -207,9 +210,12 @@ fn call_of(
     ensures shorter { IfOk result (λ x. length x.2.now ≤ length rest.now) }
 {
     if depth + height >= MOST_NESTING {
-        return Err(ReadError::Depth(after(rest).len()));
+        return Err(without(callee, ReadError::Depth(after(rest).len())));
     }
-    let (arguments, arguments_height, more) = all_arguments_of(alloc, after(rest), depth)?;
+    let (arguments, arguments_height, more) = match all_arguments_of(alloc, after(rest), depth) {
+        Ok(arguments) => arguments,
+        Err(fault) => return Err(without(callee, fault)),
+    };
     called_of(
         alloc,
         more,
@@ -243,9 +249,12 @@ fn closing_of(
     ensures shorter { IfOk result (λ x. length x.2.now ≤ length rest.now) }
 {
     if depth + height >= MOST_NESTING {
-        return Err(ReadError::Depth(after(rest).len()));
+        return Err(without(callee, ReadError::Depth(after(rest).len())));
     }
-    let (closure, closure_height, more) = closure_of(alloc, rest, depth + 1)?;
+    let (closure, closure_height, more) = match closure_of(alloc, rest, depth + 1) {
+        Ok(closure) => closure,
+        Err(fault) => return Err(without(callee, fault)),
+    };
     let e = call_closure(alloc, callee, closure)?;
     calls_goal(
         alloc,
@@ -279,13 +288,16 @@ fn member_of(
 {
     let more = after(rest);
     if depth + height >= MOST_NESTING {
-        return Err(ReadError::Depth(more.len()));
+        return Err(without(whole, ReadError::Depth(more.len())));
     }
-    if let Some(name) = name_at(alloc, more)? {
-        let e = member(alloc, whole, here(more), name)?;
-        return calls_goal(alloc, after(more), context, e, height + 1, depth);
+    match name_at(alloc, more) {
+        Ok(Some(name)) => {
+            let e = member(alloc, whole, here(more), name)?;
+            calls_goal(alloc, after(more), context, e, height + 1, depth)
+        }
+        Ok(None) => Err(without(whole, ReadError::Syntax(more.len()))),
+        Err(_) => Err(without(whole, ReadError::Memory)),
     }
-    Err(ReadError::Syntax(more.len()))
 }
 
 /// Members and calls after `left`.

@@ -11,7 +11,7 @@ ghost use Rattle.own_expr.specs.Views.{head_view};
 use super::Read;
 use super::blocks::separated_of;
 use super::expressions::expression_goal;
-use crate::fault::ReadError;
+use crate::fault::{ReadError, without};
 use crate::lines::ends_clause;
 use crate::makers::{case_head, guarded_head};
 use crate::next::{after, here, is_mark, is_word, till};
@@ -50,12 +50,7 @@ fn clause_goal(alloc: Global, rest: &[Token], depth: u32) -> Read<'_, Items<Stmt
 
 /// After the patterns of a `case`: a `where` stands only after a single one.
 #[cycle(parse)]
-fn where_of(
-    alloc: Global,
-    rest: &[Token],
-    patterns: Row<Pattern>,
-    depth: u32,
-) -> Read<'_, Head>
+fn where_of(alloc: Global, rest: &[Token], patterns: Row<Pattern>, depth: u32) -> Read<'_, Head>
     requires limit { depth ≤ MOST_NESTING }
     ensures gives { Gives (λ x. (head_view x.0, x.2.now)) result (spec.where_with reader depth (map pattern_view patterns) rest.now) }
     ensures height { IfOk result (λ x. x.1 ≡ nest_when (head_view x.0)) }
@@ -107,9 +102,12 @@ fn clause_of(alloc: Global, rest: &[Token], depth: u32) -> Read<'_, Clause>
 {
     let (head, head_height, more) = head_of(alloc, rest, depth)?;
     if !is_mark(Mark::Colon, more) {
-        return Err(ReadError::Syntax(more.len()));
+        return Err(without(head, ReadError::Syntax(more.len())));
     }
-    let (statements, height, last) = clause_goal(alloc, after(more), depth)?;
+    let (statements, height, last) = match clause_goal(alloc, after(more), depth) {
+        Ok(statements) => statements,
+        Err(fault) => return Err(without(head, fault)),
+    };
     let span = till(
         here(rest),
         statements_end(here(more), statements.as_slice()),

@@ -10,7 +10,7 @@ ghost use Rattle.own_expr.specs.Reads.{reader};
 use super::Read;
 use super::calls::calls_goal;
 use crate::atoms::atom_of;
-use crate::fault::ReadError;
+use crate::fault::{ReadError, without};
 use crate::makers::{choice, parenthesized, prefix};
 use crate::next::{after, here, is_mark, is_word, till};
 use crate::nodes::binary;
@@ -37,7 +37,7 @@ fn parenthesized_of(alloc: Global, rest: &[Token], depth: u32) -> Read<'_, Expr>
 {
     let (inner, height, more) = expression_goal(alloc, after(rest), Context::Inside, depth + 1)?;
     if !is_mark(Mark::CloseParen, more) {
-        return Err(ReadError::Syntax(more.len()));
+        return Err(without(inner, ReadError::Syntax(more.len())));
     }
     let span = till(here(rest), here(more));
     Ok((parenthesized(alloc, span, inner)?, height + 1, after(more)))
@@ -178,9 +178,18 @@ fn operators_of(
             return Ok((left, height, rest));
         }
         if depth + height >= MOST_NESTING {
-            return Err(ReadError::Depth(after(rest).len()));
+            return Err(without(left, ReadError::Depth(after(rest).len())));
         }
-        let (right, right_height, more) = level_of(alloc, after(rest), j, context, depth + 1)?;
+        let (right, right_height, more) = match level_of(
+            alloc,
+            after(rest),
+            j,
+            context,
+            depth + 1,
+        ) {
+            Ok(right) => right,
+            Err(fault) => return Err(without(left, fault)),
+        };
         let e = binary(alloc, left, operator, here(rest), right)?;
         return next_of(
             alloc,
@@ -264,11 +273,23 @@ fn branches_of(
     ensures fits { IfOk result (λ x. depth + x.1 ≤ MOST_NESTING) }
     ensures shorter { IfOk result (λ x. length x.2.now ≤ length rest.now) }
 {
-    let (first, first_height, more) = expression_goal(alloc, rest, context, depth + 1)?;
+    let (first, first_height, more) = match expression_goal(alloc, rest, context, depth + 1) {
+        Ok(first) => first,
+        Err(fault) => return Err(without(condition, fault)),
+    };
     if !is_mark(Mark::Colon, more) {
-        return Err(ReadError::Syntax(more.len()));
+        let fault = without(first, ReadError::Syntax(more.len()));
+        return Err(without(condition, fault));
     }
-    let (second, second_height, last) = expression_goal(alloc, after(more), context, depth + 1)?;
+    let (second, second_height, last) = match expression_goal(
+        alloc,
+        after(more),
+        context,
+        depth + 1,
+    ) {
+        Ok(second) => second,
+        Err(fault) => return Err(without(condition, without(first, fault))),
+    };
     let e = choice(alloc, condition, first, second)?;
     Ok((e, height.max(first_height.max(second_height)) + 1, last))
 }
@@ -296,7 +317,7 @@ fn choice_of(
         return Ok((condition, height, rest));
     }
     if depth + height >= MOST_NESTING {
-        return Err(ReadError::Depth(after(rest).len()));
+        return Err(without(condition, ReadError::Depth(after(rest).len())));
     }
     branches_of(alloc, after(rest), context, condition, height, depth)
 }

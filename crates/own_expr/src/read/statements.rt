@@ -11,7 +11,7 @@ use super::Read;
 use super::blocks::body_goal;
 use super::clauses::clauses_goal;
 use super::expressions::{expression_goal, expression_of};
-use crate::fault::ReadError;
+use crate::fault::{ReadError, without};
 use crate::lines::{assigns, is_bare};
 use crate::makers::{else_if, if_else, if_then};
 use crate::next::{after, binder_at, here, is_mark, is_word, keyword_at, till};
@@ -118,7 +118,10 @@ fn else_of<'a>(
     }
     let more = after(rest);
     if is_word(Word::If, more) {
-        let (other, other_height, last) = statement_goal(alloc, more, depth + 1)?;
+        let (other, other_height, last) = match statement_goal(alloc, more, depth + 1) {
+            Ok(other) => other,
+            Err(fault) => return Err(without(condition, fault)),
+        };
         let statement = else_if(alloc, here(from), condition, block, other)?;
         return Ok((
             statement,
@@ -126,7 +129,10 @@ fn else_of<'a>(
             last,
         ));
     }
-    let (other, other_height, last) = body_goal(alloc, more, depth + 1)?;
+    let (other, other_height, last) = match body_goal(alloc, more, depth + 1) {
+        Ok(other) => other,
+        Err(fault) => return Err(without(condition, fault)),
+    };
     let statement = if_else(here(from), condition, block, other);
     Ok((
         statement,
@@ -151,7 +157,10 @@ fn if_of(alloc: Global, rest: &[Token], depth: u32) -> Read<'_, Stmt>
         Context::Condition,
         depth + 1,
     )?;
-    let (block, block_height, last) = body_goal(alloc, more, depth + 1)?;
+    let (block, block_height, last) = match body_goal(alloc, more, depth + 1) {
+        Ok(block) => block,
+        Err(fault) => return Err(without(condition, fault)),
+    };
     else_of(
         alloc,
         last,
@@ -180,7 +189,10 @@ fn while_of(alloc: Global, rest: &[Token], depth: u32) -> Read<'_, Stmt>
         Context::Condition,
         depth + 1,
     )?;
-    let (block, block_height, last) = body_goal(alloc, more, depth + 1)?;
+    let (block, block_height, last) = match body_goal(alloc, more, depth + 1) {
+        Ok(block) => block,
+        Err(fault) => return Err(without(condition, fault)),
+    };
     let span = till(here(rest), block.span);
     Ok((
         Stmt::While(span, condition, block),
@@ -239,13 +251,19 @@ fn upper_of<'a>(
     ensures fits { IfOk result (λ x. depth + x.1 ≤ MOST_NESTING) }
     ensures shorter { IfOk result (λ x. length x.2.now ≤ length rest.now) }
 {
-    let (high, high_height, more) = expression_goal(
+    let (high, high_height, more) = match expression_goal(
         alloc,
         after(rest),
         Context::Condition,
         depth + 1,
-    )?;
-    let (block, block_height, last) = body_goal(alloc, more, depth + 1)?;
+    ) {
+        Ok(high) => high,
+        Err(fault) => return Err(without(low, fault)),
+    };
+    let (block, block_height, last) = match body_goal(alloc, more, depth + 1) {
+        Ok(block) => block,
+        Err(fault) => return Err(without(low, without(high, fault))),
+    };
     let span = till(here(from), block.span);
     let statement = Stmt::For(span, name, low, operator, here(rest), high, block);
     Ok((
@@ -275,7 +293,7 @@ fn lower_of<'a>(
     if let Some(operator) = range_at(more) {
         return upper_of(alloc, more, from, name, low, height, operator, depth);
     }
-    Err(ReadError::Syntax(more.len()))
+    Err(without(low, ReadError::Syntax(more.len())))
 }
 
 #[cycle(parse)]
@@ -316,9 +334,12 @@ fn switch_of(alloc: Global, rest: &[Token], depth: u32) -> Read<'_, Stmt>
         depth + 1,
     )?;
     if !is_mark(Mark::OpenBrace, more) {
-        return Err(ReadError::Syntax(more.len()));
+        return Err(without(subject, ReadError::Syntax(more.len())));
     }
-    let (clauses, clauses_height, last) = clauses_goal(alloc, after(more), depth + 1)?;
+    let (clauses, clauses_height, last) = match clauses_goal(alloc, after(more), depth + 1) {
+        Ok(clauses) => clauses,
+        Err(fault) => return Err(without(subject, fault)),
+    };
     let span = till(here(rest), here(last));
     Ok((
         Stmt::Switch(span, subject, clauses),
