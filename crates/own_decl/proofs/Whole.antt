@@ -1,5 +1,5 @@
 -- What a reading of a file says of the trees that spell it.
-use Rattle.std.proofs.Common.{◌≡◌, ℕ, ◌-◌, ◌≤◌, ◌<◌, ◌⊎◌, length, drop, Result, Ok, Err, inl, inr, refl, sym, ap, ◌∙◌, arith}
+use Rattle.std.proofs.Common.{◌≡◌, ℕ, ◌-◌, ◌≤◌, ◌<◌, ◌⊎◌, length, drop, Result, Ok, Err, inl, inr, arith}
 use Rattle.own_tree.specs.declared.limits.TheConstants.{MOST_NESTING}
 use Rattle.own_grammar.specs.declared.limits.TheConstants.{MOST_PATTERN_LEVELS}
 use Rattle.own_tree.specs.Source.{File}
@@ -8,7 +8,7 @@ use Rattle.own_grammar.specs.Declarations.{Spells, nest_file, levels_file}
 use Rattle.own_grammar.specs.PartialFile.{PFile, Part, nest_pf, levels_pf}
 use Rattle.own_grammar.specs.Reading.{Fault, Syntax, Depth}
 use Rattle.own_grammar.specs.ReadingFile.{read_file}
-use Rattle.own_grammar.proofs.FileLaws.{file_again, file_found, file_depth, file_deep, file_syntax, one_file}
+use Rattle.own_grammar.proofs.FileLaws.{file_again, file_found, file_depth, file_syntax, one_file}
 use Rattle.own_decl.proofs.FileTails.{file_place}
 
 some : 0 < MOST_PATTERN_LEVELS

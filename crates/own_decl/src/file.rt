@@ -1,5 +1,5 @@
 //! The file.
-ghost use Rattle.std.specs.Prelude.{◌≡◌, ◌<◌, ◌^◌, length, Result, Ok, Err};
+ghost use Rattle.std.specs.Prelude.{◌<◌, ◌^◌, length, Result, Ok, Err};
 ghost use Rattle.own_expr.specs.Gives.{Gives};
 ghost use Rattle.own_grammar.specs.ReadingFile as spec;
 ghost use Rattle.own_tree.specs.View.{tree_view};

@@ -1,9 +1,8 @@
 //! Functions, and the members of structs and enums.
-ghost use Rattle.std.specs.Prelude.{◌≡◌, ◌≤◌, ◌<◌, length, [], true, IfOk, IfSome};
+ghost use Rattle.std.specs.Prelude.{◌≡◌, ◌≤◌, ◌<◌, length, [], IfOk};
 ghost use Rattle.own_expr.specs.Gives.{Gives};
 ghost use Rattle.own_grammar.specs.Declarations as declarations;
 ghost use Rattle.own_grammar.specs.Lists as lists;
-ghost use Rattle.own_grammar.specs.Nesting.{blk_span};
 ghost use Rattle.own_grammar.specs.Reading as reading;
 ghost use Rattle.own_grammar.specs.ReadingFile as spec;
 ghost use Rattle.own_tree.specs.Source as source;

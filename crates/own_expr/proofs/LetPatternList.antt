@@ -1,14 +1,11 @@
 -- A list of patterns after a `let`, one after the other.
-use Rattle.std.proofs.Common.{◌≡◌, ℕ, suc, ◌+◌, ◌<◌, ◌≤◌, max, true, false, List, [], ◌∷◌, ◌++◌, map, length, Ok, refl, sym, ap, ◌∙◌, arith}
+use Rattle.std.proofs.Common.{◌≡◌, ℕ, ◌+◌, ◌≤◌, true, false, List, [], ◌∷◌, ◌++◌, map, length, Ok, refl, sym, ap, ◌∙◌, arith}
 use Rattle.std.proofs.lemmas.List.{map-append}
-use Rattle.own_tree.specs.declared.span.Span.{Span}
 use Rattle.own_tree.specs.declared.token.Mark.TheVariants as mark
-use Rattle.own_tree.specs.declared.tree.Name.{Name}
 use Rattle.own_tree.specs.declared.tree.LetPattern.{LetPattern}
-use Rattle.own_tree.specs.Source.{LetPat, let_case}
-use Rattle.own_tree.specs.View.{let_pattern_view, let_pats_of}
+use Rattle.own_tree.specs.Source.{LetPat}
+use Rattle.own_tree.specs.View.{let_pattern_view}
 use Rattle.own_grammar.specs.Tests.{Toks, after, is_mark}
-use Rattle.own_grammar.specs.Nesting.{nest_let_pat, nest_let_pats}
 use Rattle.own_grammar.specs.Reading.{let_patterns_on, let_pattern, let_patterns_with, let_pattern_with, pattern_step, read_pattern}
 use Rattle.own_grammar.proofs.PatternsRead.{read_pattern_is}
 use Rattle.own_expr.specs.Gives.{Fails}

@@ -3,7 +3,6 @@ use Rattle.std.proofs.Common.{◌≡◌, ◌≤◌, true, false, List, [], ◌�
 use Rattle.own_tree.specs.declared.token.Mark.TheVariants as mark
 use Rattle.own_tree.specs.declared.token.Word.TheVariants as word
 use Rattle.own_tree.specs.declared.tree.ClosureName.{ClosureName}
-use Rattle.own_tree.specs.declared.tree.Name.{Name}
 use Rattle.own_grammar.specs.Tests.{Toks, after, is_mark, is_word, closure_name_at, kind_at, names_at, name_then, then_more}
 
 abbrev pub onto : List ClosureName → Option (List ClosureName × Toks) → Option (List ClosureName × Toks)

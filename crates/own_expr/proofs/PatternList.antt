@@ -1,14 +1,11 @@
 -- A list of patterns, one after the other.
-use Rattle.std.proofs.Common.{◌≡◌, ℕ, suc, ◌+◌, ◌<◌, ◌≤◌, max, true, false, List, [], ◌∷◌, ◌++◌, map, length, Ok, refl, sym, ap, ◌∙◌, arith}
+use Rattle.std.proofs.Common.{◌≡◌, ℕ, ◌+◌, ◌≤◌, true, false, List, [], ◌∷◌, ◌++◌, map, length, Ok, refl, sym, ap, ◌∙◌, arith}
 use Rattle.std.proofs.lemmas.List.{map-append}
-use Rattle.own_tree.specs.declared.span.Span.{Span}
 use Rattle.own_tree.specs.declared.token.Mark.TheVariants as mark
-use Rattle.own_tree.specs.declared.tree.Name.{Name}
 use Rattle.own_tree.specs.declared.tree.Pattern.{Pattern}
-use Rattle.own_tree.specs.Source.{Pat, on_case}
-use Rattle.own_tree.specs.View.{pattern_view, pats_of}
+use Rattle.own_tree.specs.Source.{Pat}
+use Rattle.own_tree.specs.View.{pattern_view}
 use Rattle.own_grammar.specs.Tests.{Toks, after, is_mark}
-use Rattle.own_grammar.specs.Nesting.{nest_pat, nest_pats}
 use Rattle.own_grammar.specs.Reading.{patterns_on, pattern, patterns_with, pattern_with, pattern_step, read_pattern}
 use Rattle.own_grammar.proofs.PatternsRead.{read_pattern_is}
 use Rattle.own_expr.specs.Gives.{Fails}

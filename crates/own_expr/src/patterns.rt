@@ -1,5 +1,5 @@
 //! The patterns of a clause.
-ghost use Rattle.std.specs.Prelude.{◌≡◌, ◌≤◌, ◌<◌, ◌+◌, length, map, [], IfOk};
+ghost use Rattle.std.specs.Prelude.{◌≡◌, ◌<◌, ◌+◌, length, map, [], IfOk};
 ghost use Rattle.own_expr.specs.Gives.{Gives};
 ghost use Rattle.own_grammar.specs.Reading as spec;
 ghost use Rattle.own_tree.specs.Source as source;

@@ -1,4 +1,4 @@
-use Rattle.std.proofs.Common.{arith, inl, inr, sym}
+use Rattle.std.proofs.Common.{inl, inr, sym}
 use Rattle.own_tree.specs.View.{tree_view}
 use Rattle.own_grammar.specs.Reading.{Syntax, Depth}
 use Rattle.own_decl.proofs.Whole.{stands, not_refused, breaks, no_file, too_deep}
