@@ -16,7 +16,7 @@ use Rattle.own_runs.proofs.MoreRows.{no_types}
 -- ---- F1
 
 -- `func f() -> Int { }` and `func main() { print(f()) }`
-abbrev falls_off : Program
+abbrev pub falls_off : Program
 falls_off = alone (main_body (say 1 (call (at 2 type.Int) (target.Function 1) (exps []) [] ∷ []) ∷ []) ∷ function_body [] type.Int [] ∷ []) []
 
 -- The body gives no result.
@@ -26,30 +26,30 @@ falls_off_is_wrong = refl
 
 -- ---- O11: the subject of a borrowing `switch` is changed in it
 
-abbrev inner : Ty
+abbrev pub inner : Ty
 inner = type.Named 0
 
-abbrev either : Ty
+abbrev pub either : Ty
 either = type.Named 1
 
 -- `struct S: ~Copyable { var n: Int }` and `enum E: ~Copyable { case a(S), b }`
-abbrev either_types : Types
+abbrev pub either_types : Types
 either_types = types_with (
     noncopyable_struct (codes "S") (has (codes "n") (codes "Int") ∷ [])
     ∷ enum_of (sp 0) (name_at (codes "E")) true (cases (sp 0) (case_with (codes "a") (codes "S" ∷ []) ∷ case_with (codes "b") [] ∷ []) ∷ []) ∷ [])
 
 -- `var e = E.a(S(n: 7))`
-abbrev starts_as_a : TStm
+abbrev pub starts_as_a : TStm
 starts_as_a =
     let_in (node 1) 0 (
     call (at 2 either) (target.Case 1 0) (exps (call (at 3 inner) (target.Memberwise 0) (exps (i 4 7 ∷ [])) (passing.ByValue ∷ []) ∷ [])) (passing.Consume ∷ []))
 
 -- `E.b`
-abbrev as_b : TExp
+abbrev pub as_b : TExp
 as_b = call (at 9 either) (target.Case 1 1) (exps []) []
 
 -- `switch e { case .a(let x): e = E.b  print(x.n)  case .b: print(0) }`
-abbrev turns_over : Program
+abbrev pub turns_over : Program
 turns_over = alone (
     main_body (
     starts_as_a
@@ -65,7 +65,7 @@ turns_over_is_wrong = refl
 
 -- `func flip(_ e: inout E) -> Bool { e = E.b  return false }`, and in `main`
 -- `switch e { case .b: print(0)  case .a(let x) where flip(&e): print(1)  case .a(let x): print(2) }`
-abbrev guard_turns_over : Program
+abbrev pub guard_turns_over : Program
 guard_turns_over = alone (
     main_body (
     starts_as_a
