@@ -1,8 +1,9 @@
 //! Trees in a short form: parentheses round each operator with its parts, brackets for parentheses.
 
+use own_tree::Span;
 use own_tree::tree::{
-    Argument, AssignOperator, BinaryOperator, Block, Clause, Closure, Expr, Head, Keyword,
-    LetPattern, Name, Passed, Path, Pattern, PrefixOperator, RangeOperator, Root, Stmt,
+    Argument, AssignOperator, BinaryOperator, Block, Clause, Closure, ClosureName, Expr, Head,
+    Keyword, LetPattern, Name, Passed, Path, Pattern, PrefixOperator, RangeOperator, Root, Stmt,
 };
 use std::fmt::Write;
 
@@ -30,6 +31,16 @@ fn put_optional(out: &mut String, name: &Option<Name>) {
     match name {
         Some(name) => put_name(out, name),
         None => put(out, "_"),
+    }
+}
+
+/// A name of a closure: a `_` with the bytes where it stands.
+fn put_closure_name(out: &mut String, name: &ClosureName) {
+    match name {
+        ClosureName::Any(Span { start, end }) => {
+            let _ = write!(out, "_[{start}..{end}]");
+        }
+        ClosureName::Bind(name) => put_name(out, name),
     }
 }
 
@@ -205,7 +216,7 @@ fn put_closure(out: &mut String, closure: &Closure, fuel: u32) {
     }
     put(out, "{");
     for name in closure.names.as_slice() {
-        put_optional(out, name);
+        put_closure_name(out, name);
         put(out, " in ");
     }
     put_statements(out, closure.statements.as_slice(), fuel - 1);

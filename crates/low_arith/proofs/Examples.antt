@@ -43,7 +43,7 @@ pub sums :
     (two Add 9223372036854775807 1 ≡ ([], Trapped 1 7)) ×
     (two Add 9223372036854775808 18446744073709551615 ≡ ([], Trapped 1 7)) ×
     (two Add 9223372036854775808 9223372036854775807 ≡ (codes "-1", Ended 19))
-unfolding checked_code machine_run started step act leave branch pop pop32 pop64 two32 two64 pushed given local_get local_set local_tee call call_defined called host idiv_s irem_s digits roll-Instr out-Instr denote.Hole.Carrier.roll denote.Hole.Carrier.out denote.Hole.Carrier.shown denote.Hole.Carrier.hidden Rattle.wasm_form.specs.declared.instr.Instr.TheBlock.shown-the_row-Instr-0
+unfolding checked_code machine_run started step act leave branch pop pop32 pop64 two32 two64 pushed given local_get local_set local_tee call call_defined called host idiv_s irem_s digits roll-Instr out-Instr denote.Hole.Carrier.roll denote.Hole.Carrier.out denote.Hole.Carrier.shown denote.Hole.Carrier.hidden Rattle.wasm_form.specs.declared.instr.Instr.TheBlock.shown-the_row-Instr-0 Rattle.wasm_form.specs.declared.instr.Instr.TheBlock.shown-the_row-Instr-If-1-1-1
 sums = (refl, refl, refl, refl, refl)
 
 -- to the ends of `Int` and past them
@@ -53,7 +53,7 @@ pub differences :
     (two Sub 9223372036854775808 1 ≡ ([], Trapped 1 7)) ×
     (two Sub 0 9223372036854775808 ≡ ([], Trapped 1 7)) ×
     (two Sub 18446744073709551615 9223372036854775808 ≡ (codes "9223372036854775807", Ended 19))
-unfolding checked_code machine_run started step act leave branch pop pop32 pop64 two32 two64 pushed given local_get local_set local_tee call call_defined called host idiv_s irem_s digits roll-Instr out-Instr denote.Hole.Carrier.roll denote.Hole.Carrier.out denote.Hole.Carrier.shown denote.Hole.Carrier.hidden Rattle.wasm_form.specs.declared.instr.Instr.TheBlock.shown-the_row-Instr-0
+unfolding checked_code machine_run started step act leave branch pop pop32 pop64 two32 two64 pushed given local_get local_set local_tee call call_defined called host idiv_s irem_s digits roll-Instr out-Instr denote.Hole.Carrier.roll denote.Hole.Carrier.out denote.Hole.Carrier.shown denote.Hole.Carrier.hidden Rattle.wasm_form.specs.declared.instr.Instr.TheBlock.shown-the_row-Instr-0 Rattle.wasm_form.specs.declared.instr.Instr.TheBlock.shown-the_row-Instr-If-1-1-1
 differences = (refl, refl, refl, refl, refl)
 
 -- by 0, by -1, and one past the ends
@@ -65,7 +65,7 @@ pub products :
     (two Mul 18446744073709551615 9223372036854775808 ≡ ([], Trapped 1 7)) ×
     (two Mul 9223372036854775808 18446744073709551615 ≡ ([], Trapped 1 7)) ×
     (two Mul 3037000500 3037000500 ≡ ([], Trapped 1 7))
-unfolding checked_code machine_run started step act leave branch pop pop32 pop64 two32 two64 pushed given local_get local_set local_tee call call_defined called host idiv_s irem_s digits roll-Instr out-Instr denote.Hole.Carrier.roll denote.Hole.Carrier.out denote.Hole.Carrier.shown denote.Hole.Carrier.hidden Rattle.wasm_form.specs.declared.instr.Instr.TheBlock.shown-the_row-Instr-0
+unfolding checked_code machine_run started step act leave branch pop pop32 pop64 two32 two64 pushed given local_get local_set local_tee call call_defined called host idiv_s irem_s digits roll-Instr out-Instr denote.Hole.Carrier.roll denote.Hole.Carrier.out denote.Hole.Carrier.shown denote.Hole.Carrier.hidden Rattle.wasm_form.specs.declared.instr.Instr.TheBlock.shown-the_row-Instr-0 Rattle.wasm_form.specs.declared.instr.Instr.TheBlock.shown-the_row-Instr-If-1-1-1
 products = (refl, refl, refl, refl, refl, refl, refl)
 
 -- rounded toward zero
@@ -75,7 +75,7 @@ pub quotients :
     (two Div 9223372036854775808 1 ≡ (codes "-9223372036854775808", Ended 20)) ×
     (two Div 9223372036854775808 18446744073709551615 ≡ ([], Trapped 1 7)) ×
     (two Div 1 0 ≡ ([], Trapped 2 7))
-unfolding checked_code machine_run started step act leave branch pop pop32 pop64 two32 two64 pushed given local_get local_set local_tee call call_defined called host idiv_s irem_s digits roll-Instr out-Instr denote.Hole.Carrier.roll denote.Hole.Carrier.out denote.Hole.Carrier.shown denote.Hole.Carrier.hidden Rattle.wasm_form.specs.declared.instr.Instr.TheBlock.shown-the_row-Instr-0
+unfolding checked_code machine_run started step act leave branch pop pop32 pop64 two32 two64 pushed given local_get local_set local_tee call call_defined called host idiv_s irem_s digits roll-Instr out-Instr denote.Hole.Carrier.roll denote.Hole.Carrier.out denote.Hole.Carrier.shown denote.Hole.Carrier.hidden Rattle.wasm_form.specs.declared.instr.Instr.TheBlock.shown-the_row-Instr-0 Rattle.wasm_form.specs.declared.instr.Instr.TheBlock.shown-the_row-Instr-If-1-1-1
 quotients = (refl, refl, refl, refl, refl)
 
 -- with the sign of the first operand
@@ -85,7 +85,7 @@ pub remainders :
     (two Rem 9223372036854775808 18446744073709551615 ≡ ([], Trapped 1 7)) ×
     (two Rem 9223372036854775808 18446744073709551614 ≡ (codes "0", Ended 20)) ×
     (two Rem 1 0 ≡ ([], Trapped 2 7))
-unfolding checked_code machine_run started step act leave branch pop pop32 pop64 two32 two64 pushed given local_get local_set local_tee call call_defined called host idiv_s irem_s digits roll-Instr out-Instr denote.Hole.Carrier.roll denote.Hole.Carrier.out denote.Hole.Carrier.shown denote.Hole.Carrier.hidden Rattle.wasm_form.specs.declared.instr.Instr.TheBlock.shown-the_row-Instr-0
+unfolding checked_code machine_run started step act leave branch pop pop32 pop64 two32 two64 pushed given local_get local_set local_tee call call_defined called host idiv_s irem_s digits roll-Instr out-Instr denote.Hole.Carrier.roll denote.Hole.Carrier.out denote.Hole.Carrier.shown denote.Hole.Carrier.hidden Rattle.wasm_form.specs.declared.instr.Instr.TheBlock.shown-the_row-Instr-0 Rattle.wasm_form.specs.declared.instr.Instr.TheBlock.shown-the_row-Instr-If-1-1-1
 remainders = (refl, refl, refl, refl, refl)
 
 -- of the least `Int` there is none
@@ -94,5 +94,5 @@ pub negations :
     (one Neg 0 ≡ (codes "0", Ended 11)) ×
     (one Neg 9223372036854775807 ≡ (codes "-9223372036854775807", Ended 11)) ×
     (one Neg 9223372036854775808 ≡ ([], Trapped 1 7))
-unfolding checked_code machine_run started step act leave branch pop pop32 pop64 two32 two64 pushed given local_get local_set local_tee call call_defined called host idiv_s irem_s digits roll-Instr out-Instr denote.Hole.Carrier.roll denote.Hole.Carrier.out denote.Hole.Carrier.shown denote.Hole.Carrier.hidden Rattle.wasm_form.specs.declared.instr.Instr.TheBlock.shown-the_row-Instr-0
+unfolding checked_code machine_run started step act leave branch pop pop32 pop64 two32 two64 pushed given local_get local_set local_tee call call_defined called host idiv_s irem_s digits roll-Instr out-Instr denote.Hole.Carrier.roll denote.Hole.Carrier.out denote.Hole.Carrier.shown denote.Hole.Carrier.hidden Rattle.wasm_form.specs.declared.instr.Instr.TheBlock.shown-the_row-Instr-0 Rattle.wasm_form.specs.declared.instr.Instr.TheBlock.shown-the_row-Instr-If-1-1-1
 negations = (refl, refl, refl, refl)

@@ -5,6 +5,7 @@ use Rattle.std.proofs.lemmas.Bool.{lt-ltb}
 use Rattle.std.specs.Prelude.{Bool, true, false, not, ◌&&◌, if◌then◌else◌, ◌==◌}
 use Rattle.wasm_form.specs.declared.instr.Instr.{Instr}
 use Rattle.wasm_form.specs.declared.instr.Instr.TheVariants as i
+use Rattle.wasm_form.specs.declared.limits.TheConstants.{MOST_OPERANDS}
 use Rattle.wasm_form.specs.declared.module.Module.{Module}
 use Rattle.wasm_form.specs.declared.types.Value.{Value}
 use Rattle.wasm_form.specs.declared.types.Value.TheVariants.{I32, I64}
@@ -42,12 +43,12 @@ inside values after c = record c { layers = Label values None after after ∷ c.
 module _ (m : Module) (c : Config) {code : List Instr} {vs : List Value} {base : Value} {others : List Value} where
   -- ---- locals
 
-  pub gets_first : {p q : ℕ} → length vs + below_all c.layers < 1048576
+  pub gets_first : {p q : ℕ} → length vs + below_all c.layers < MOST_OPERANDS
       → step m (on c (i.LocalGet 1 ∷ code) vs (locals_with base p q others)) ≡ Goes (on c code (I64 p ∷ vs) (locals_with base p q others))
   unfolding step act local_get pushed
   gets_first lt = rw (out_local_get 1, lt-ltb _ _ lt) refl
 
-  pub gets_second : {p q : ℕ} → length vs + below_all c.layers < 1048576
+  pub gets_second : {p q : ℕ} → length vs + below_all c.layers < MOST_OPERANDS
       → step m (on c (i.LocalGet 2 ∷ code) vs (locals_with base p q others)) ≡ Goes (on c code (I64 q ∷ vs) (locals_with base p q others))
   unfolding step act local_get pushed
   gets_second lt = rw (out_local_get 2, lt-ltb _ _ lt) refl
@@ -68,12 +69,12 @@ module _ (m : Module) (c : Config) {code : List Instr} {vs : List Value} {base :
   tees_second q b = rw (out_local_tee 2) refl
 
 module _ (m : Module) (c : Config) {code : List Instr} {vs locals : List Value} where
-  pub puts : (n : ℕ) → length vs + below_all c.layers < 1048576
+  pub puts : (n : ℕ) → length vs + below_all c.layers < MOST_OPERANDS
       → step m (on c (i.I64Const n ∷ code) vs locals) ≡ Goes (on c code (I64 n ∷ vs) locals)
   unfolding step act pushed
   puts n lt = rw (out_i64_const n, lt-ltb _ _ lt) refl
 
-  pub puts32 : (n : ℕ) → length vs + below_all c.layers < 1048576
+  pub puts32 : (n : ℕ) → length vs + below_all c.layers < MOST_OPERANDS
       → step m (on c (i.I32Const n ∷ code) vs locals) ≡ Goes (on c code (I32 n ∷ vs) locals)
   unfolding step act pushed
   puts32 n lt = rw (out_i32_const n, lt-ltb _ _ lt) refl
@@ -163,9 +164,9 @@ module _ (m : Module) (c : Config) {code : List Instr} {vs locals : List Value} 
   passes number offset t = goes (enters m c _ [] 0) (goes (leaves m c) t)
 
   -- and one that holds traps in the fourth
-  pub falls : HasTrap m → (n number offset : ℕ) → length vs + below_all c.layers + 2 ≤ 1048576
+  pub falls : HasTrap m → (n number offset : ℕ) → length vs + below_all c.layers + 2 ≤ MOST_OPERANDS
       → Leads m (suc (suc (suc (suc n)))) (on c (trap_if number offset ∷ code) (I32 1 ∷ vs) locals) (Traps number offset)
   falls h n number offset room =
-      let one : 0 + (length vs + below_all c.layers) < 1048576 = omega (arith, room) in
-      let two : 1 + (length vs + below_all c.layers) < 1048576 = omega (arith, room) in
+      let one : 0 + (length vs + below_all c.layers) < MOST_OPERANDS = omega (arith, room) in
+      let two : 1 + (length vs + below_all c.layers) < MOST_OPERANDS = omega (arith, room) in
       goes (enters m c _ [] 1) (goes (puts32 m (inside vs code c) number one) (goes (puts32 m (inside vs code c) offset two) (calls m (inside vs code c) h n number offset)))

@@ -6,6 +6,7 @@ use Rattle.own_tree.specs.declared.arithmetic.Arith.{Arith}
 use Rattle.own_tree.specs.declared.arithmetic.Arith.TheVariants.{Add, Sub, Mul, Div, Rem, Neg}
 use Rattle.wasm_form.specs.declared.instr.Instr.{Instr}
 use Rattle.wasm_form.specs.declared.instr.Instr.TheVariants as i
+use Rattle.wasm_form.specs.declared.limits.TheConstants.{MOST_OPERANDS}
 use Rattle.wasm_form.specs.declared.module.Module.{Module}
 use Rattle.wasm_form.specs.declared.types.Value.{Value}
 use Rattle.wasm_form.specs.declared.types.Value.TheVariants.{I32, I64}
@@ -19,34 +20,34 @@ use Rattle.low_arith.proofs.Laws as law
 use Rattle.low_arith.proofs.Numbers.{signed, sum_is_int, sum_is_none, sum_bits, difference_is_int, difference_is_none, difference_bits, negation_is_int, negation_is_none, negation_bits, quotient_is_int, quotient_is_none, divisor_is_zero, product_by_minus_one, product_bits, product_is_int, product_is_none, product_of_zero, product_of_least}
 use Rattle.low_arith.proofs.Numbers as number
 
-module _ (m : Module) (trap : HasTrap m) (c : Config) (rest : List Instr) (values : List Value) (base : Value) (others : List Value) (at : ℕ) (room : length values + below_all c.layers + 4 ≤ 1048576) where
+module _ (m : Module) (trap : HasTrap m) (c : Config) (rest : List Instr) (values : List Value) (base : Value) (others : List Value) (at : ℕ) (room : length values + below_all c.layers + 4 ≤ MOST_OPERANDS) where
   -- as many values more may be pushed
-  one : length values + below_all c.layers < 1048576
+  one : length values + below_all c.layers < MOST_OPERANDS
   one = omega (arith, room)
 
-  two : suc (length values) + below_all c.layers < 1048576
+  two : suc (length values) + below_all c.layers < MOST_OPERANDS
   two = omega (arith, room)
 
-  three : suc (suc (length values)) + below_all c.layers < 1048576
+  three : suc (suc (length values)) + below_all c.layers < MOST_OPERANDS
   three = omega (arith, room)
 
-  room_to_trap : length values + below_all c.layers + 2 ≤ 1048576
+  room_to_trap : length values + below_all c.layers + 2 ≤ MOST_OPERANDS
   room_to_trap = omega (arith, room)
 
   -- in an if that has nothing below
-  zero_in : 0 + (length values + below_all c.layers) < 1048576
+  zero_in : 0 + (length values + below_all c.layers) < MOST_OPERANDS
   zero_in = omega (arith, room)
 
-  one_in : 1 + (length values + below_all c.layers) < 1048576
+  one_in : 1 + (length values + below_all c.layers) < MOST_OPERANDS
   one_in = omega (arith, room)
 
-  two_in : 2 + (length values + below_all c.layers) < 1048576
+  two_in : 2 + (length values + below_all c.layers) < MOST_OPERANDS
   two_in = omega (arith, room)
 
-  room_to_trap_in : 0 + (length values + below_all c.layers) + 2 ≤ 1048576
+  room_to_trap_in : 0 + (length values + below_all c.layers) + 2 ≤ MOST_OPERANDS
   room_to_trap_in = omega (arith, room)
 
-  room_to_trap_on_one : suc (length values) + below_all c.layers + 2 ≤ 1048576
+  room_to_trap_on_one : suc (length values) + below_all c.layers + 2 ≤ MOST_OPERANDS
   room_to_trap_on_one = omega (arith, room)
 
   abbrev done : ℕ → ℕ → ℤ → Config
@@ -268,7 +269,7 @@ all_checked Sub at = record { does = λ m c rest values base p q others a b trap
 all_checked Mul at = record { does = λ m c rest values base p q others a b trap la lb room. product m c rest values base p q others a b trap la lb room (ieqz a) refl }
   where
     product : (m : Module) (c : Config) (rest : List Instr) (values : List Value) (base : Value) (p q : ℕ) (others : List Value) (a b : ℕ)
-        → HasTrap m → a < 2 ^ 64 → b < 2 ^ 64 → length values + below_all c.layers + 4 ≤ 1048576 → (zero : Bool) → ieqz a ≡ zero
+        → HasTrap m → a < 2 ^ 64 → b < 2 ^ 64 → length values + below_all c.layers + 4 ≤ MOST_OPERANDS → (zero : Bool) → ieqz a ≡ zero
         → (n first second : ℕ) × (n ≤ 26) × (steps m n (on c (product_code at ++ rest) (I64 b ∷ I64 a ∷ values) (locals_with base p q others))
         ≡ met (exact Mul (signed a) (signed b)) at (λ z. on c rest (I64 (cast_unsigned w64 z) ∷ values) (locals_with base first second others)))
     product m c rest values base p q others a b trap la lb room true z = (8, a, b, omega arith, (product_by_zero m trap c rest values base others at room p q a b la lb z).by)

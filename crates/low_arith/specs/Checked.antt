@@ -4,6 +4,7 @@ use Rattle.std.specs.Int.{w64, cast_signed, cast_unsigned}
 use Rattle.own_tree.specs.declared.arithmetic.Arith.{Arith}
 use Rattle.own_tree.specs.declared.arithmetic.Arith.TheVariants.{Neg}
 use Rattle.wasm_form.specs.declared.instr.Instr.{Instr}
+use Rattle.wasm_form.specs.declared.limits.TheConstants.{MOST_OPERANDS}
 use Rattle.wasm_form.specs.declared.module.Module.{Module}
 use Rattle.wasm_form.specs.declared.module.Import.{Import}
 use Rattle.wasm_form.specs.declared.module.HostCall.TheVariants as host
@@ -53,6 +54,6 @@ met (Fails code) at after = Traps code at
 -- what the operation gives on it, or trap. They change nothing else but the two locals.
 pub record IsChecked (op : Arith) (at : ℕ) (code : List Instr) : Type 0 where
   pub does : (m : Module) (c : Config) (rest : List Instr) (values : List Value) (base : Value) (first second : ℕ) (others : List Value) (a b : ℕ)
-      → HasTrap m → a < 2 ^ 64 → b < 2 ^ 64 → length values + below_all c.layers + MOST_PUSHED ≤ 1048576
+      → HasTrap m → a < 2 ^ 64 → b < 2 ^ 64 → length values + below_all c.layers + MOST_PUSHED ≤ MOST_OPERANDS
       → (n first' second' : ℕ) × (n ≤ MOST_STEPS) × (steps m n (on c (code ++ rest) (with_operands op a b values) (locals_with base first second others))
       ≡ met (exact op (cast_signed w64 a) (cast_signed w64 b)) at (λ z. on c rest (I64 (cast_unsigned w64 z) ∷ values) (locals_with base first' second' others)))

@@ -4,7 +4,7 @@ ghost use Rattle.low_arith.specs.Code.{trap_if, sum_code, difference_code, produ
 
 use crate::places::{FIRST, OVERFLOW, SECOND, TRAP, ZERO_DIVISOR};
 use own_tree::{Arith, Row};
-use sqlite_items::Items;
+use sqlite_items::{Boxed, Items};
 use std::alloc::{AllocError, Global};
 use wasm_form::Instr;
 
@@ -23,7 +23,9 @@ fn trap_if(alloc: Global, code: u32, at: u32) -> Result<Instr, AllocError>
         Instr::I32Const(at),
         Instr::Call(TRAP),
     ]?;
-    Ok(Instr::If(None, Items::from_vec(trap), Items::new(alloc)))
+    let trap = Boxed::new(alloc, Items::from_vec(trap))?;
+    let go_on = Boxed::new(alloc, Items::new(alloc))?;
+    Ok(Instr::If(None, trap, go_on))
 }
 
 /// An addition.
@@ -101,12 +103,13 @@ fn product_tests(alloc: Global, at: u32) -> Result<Vec<Instr>, AllocError>
 fn product_code(alloc: Global, at: u32) -> Result<Vec<Instr>, AllocError>
     ensures { IfOk result (λ code. code.items ≡ product_code at) }
 {
-    let tests = Items::from_vec(product_tests(alloc, at)?);
+    let is_zero = Boxed::new(alloc, Items::new(alloc))?;
+    let tests = Boxed::new(alloc, Items::from_vec(product_tests(alloc, at)?))?;
     let code = vec![in alloc;
         Instr::LocalSet(SECOND),
         Instr::LocalTee(FIRST),
         Instr::I64Eqz,
-        Instr::If(None, Items::new(alloc), tests),
+        Instr::If(None, is_zero, tests),
         Instr::LocalGet(FIRST),
         Instr::LocalGet(SECOND),
         Instr::I64Mul,

@@ -1,5 +1,5 @@
 -- Lists of parts, one part after the other.
-use Rattle.std.proofs.Common.{◌≡◌, ◌≤◌, Bool, cond, true, false, List, [], ◌∷◌, ◌++◌, map, length, Ok, Err, refl, sym, ap, ◌∙◌, arith}
+use Rattle.std.proofs.Common.{◌≡◌, ◌≤◌, Bool, cond, true, false, List, [], ◌∷◌, ◌++◌, map, length, Ok, refl, sym, ◌∙◌, arith}
 use Rattle.std.proofs.lemmas.List.{map-append}
 use Rattle.own_tree.specs.declared.token.Mark.TheVariants as mark
 use Rattle.own_grammar.specs.Tests.{Toks, after, is_mark}

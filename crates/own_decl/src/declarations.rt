@@ -11,6 +11,7 @@ ghost use Rattle.own_tree.specs.View.{declaration_view, struct_member_view, enum
 use crate::members::{enum_member_of, function_of, struct_member_of};
 use crate::read::Read;
 use own_expr::tokens::{ReadError, after, here, is_mark, is_word, kind_at, name_at, sep_at, till};
+use own_grammar::limits::MOST_PATTERN_LEVELS;
 use own_tree::limits::MOST_NESTING;
 use own_tree::tree::{Declaration, EnumDeclaration, EnumMember, StructDeclaration, StructMember};
 use own_tree::{Kind, Mark, Row, Token, Word};
@@ -57,7 +58,7 @@ fn noncopyable_of(rest: &[Token]) -> Read<'_, bool>
 
 /// The members of a struct up to the `}`, which is left.
 fn struct_member_list(alloc: Global, rest: &[Token]) -> Read<'_, Row<StructMember>>
-    ensures gives { Gives (λ x. (map struct_member_view x.0, x.1.now)) result (lists.separated_on (tests.is_mark Mark.CloseBrace) (spec.struct_member_with MOST_NESTING) [] rest.now) }
+    ensures gives { Gives (λ x. (map struct_member_view x.0, x.1.now)) result (lists.separated_on (tests.is_mark Mark.CloseBrace) (spec.struct_member_with MOST_NESTING MOST_PATTERN_LEVELS) [] rest.now) }
     ensures within { IfOk result (λ x. length x.1.now ≤ length rest.now) }
 {
     let mut found = Row::new(alloc);
@@ -74,7 +75,7 @@ fn struct_member_list(alloc: Global, rest: &[Token]) -> Read<'_, Row<StructMembe
 /// The members of a struct from its `{` up to the `}`, which is left.
 #[tactic(auto, unfolding(own_grammar::specs::ReadingFile::members_with, own_grammar::specs::ReadingFile::wanted))]
 fn struct_members_of(alloc: Global, rest: &[Token]) -> Read<'_, Row<StructMember>>
-    ensures gives { Gives (λ x. (map struct_member_view x.0, x.1.now)) result (spec.members_with (spec.struct_member_with MOST_NESTING) rest.now) }
+    ensures gives { Gives (λ x. (map struct_member_view x.0, x.1.now)) result (spec.members_with (spec.struct_member_with MOST_NESTING MOST_PATTERN_LEVELS) rest.now) }
     ensures within { IfOk result (λ x. length x.1.now ≤ length rest.now) }
 {
     if !is_mark(Mark::OpenBrace, rest) {
@@ -87,7 +88,7 @@ fn struct_members_of(alloc: Global, rest: &[Token]) -> Read<'_, Row<StructMember
 #[tactic(auto, unfolding(own_grammar::specs::ReadingFile::named_with))]
 fn struct_of(alloc: Global, rest: &[Token]) -> Read<'_, StructDeclaration>
     requires some { 0 < length rest.now }
-    ensures gives { Gives (λ x. (declaration_view (Declaration.Struct x.0), x.1.now)) result (spec.named_with (spec.struct_member_with MOST_NESTING) source.struct_of rest.now) }
+    ensures gives { Gives (λ x. (declaration_view (Declaration.Struct x.0), x.1.now)) result (spec.named_with (spec.struct_member_with MOST_NESTING MOST_PATTERN_LEVELS) source.struct_of rest.now) }
     ensures shorter { IfOk result (λ x. length x.1.now < length rest.now) }
 {
     let more = after(rest);
@@ -110,7 +111,7 @@ fn struct_of(alloc: Global, rest: &[Token]) -> Read<'_, StructDeclaration>
 
 /// The members of an enum up to the `}`, which is left.
 fn enum_member_list(alloc: Global, rest: &[Token]) -> Read<'_, Row<EnumMember>>
-    ensures gives { Gives (λ x. (map enum_member_view x.0, x.1.now)) result (lists.separated_on (tests.is_mark Mark.CloseBrace) (spec.enum_member_with MOST_NESTING) [] rest.now) }
+    ensures gives { Gives (λ x. (map enum_member_view x.0, x.1.now)) result (lists.separated_on (tests.is_mark Mark.CloseBrace) (spec.enum_member_with MOST_NESTING MOST_PATTERN_LEVELS) [] rest.now) }
     ensures within { IfOk result (λ x. length x.1.now ≤ length rest.now) }
 {
     let mut found = Row::new(alloc);
@@ -127,7 +128,7 @@ fn enum_member_list(alloc: Global, rest: &[Token]) -> Read<'_, Row<EnumMember>>
 /// The members of an enum from its `{` up to the `}`, which is left.
 #[tactic(auto, unfolding(own_grammar::specs::ReadingFile::members_with, own_grammar::specs::ReadingFile::wanted))]
 fn enum_members_of(alloc: Global, rest: &[Token]) -> Read<'_, Row<EnumMember>>
-    ensures gives { Gives (λ x. (map enum_member_view x.0, x.1.now)) result (spec.members_with (spec.enum_member_with MOST_NESTING) rest.now) }
+    ensures gives { Gives (λ x. (map enum_member_view x.0, x.1.now)) result (spec.members_with (spec.enum_member_with MOST_NESTING MOST_PATTERN_LEVELS) rest.now) }
     ensures within { IfOk result (λ x. length x.1.now ≤ length rest.now) }
 {
     if !is_mark(Mark::OpenBrace, rest) {
@@ -140,7 +141,7 @@ fn enum_members_of(alloc: Global, rest: &[Token]) -> Read<'_, Row<EnumMember>>
 #[tactic(auto, unfolding(own_grammar::specs::ReadingFile::named_with))]
 fn enum_of(alloc: Global, rest: &[Token]) -> Read<'_, EnumDeclaration>
     requires some { 0 < length rest.now }
-    ensures gives { Gives (λ x. (declaration_view (Declaration.Enum x.0), x.1.now)) result (spec.named_with (spec.enum_member_with MOST_NESTING) source.enum_of rest.now) }
+    ensures gives { Gives (λ x. (declaration_view (Declaration.Enum x.0), x.1.now)) result (spec.named_with (spec.enum_member_with MOST_NESTING MOST_PATTERN_LEVELS) source.enum_of rest.now) }
     ensures shorter { IfOk result (λ x. length x.1.now < length rest.now) }
 {
     let more = after(rest);
@@ -163,7 +164,7 @@ fn enum_of(alloc: Global, rest: &[Token]) -> Read<'_, EnumDeclaration>
 
 #[tactic(auto, unfolding(own_grammar::specs::ReadingFile::declaration_with))]
 fn declaration_of(alloc: Global, rest: &[Token]) -> Read<'_, Declaration>
-    ensures gives { Gives (λ x. (declaration_view x.0, x.1.now)) result (spec.declaration_with MOST_NESTING rest.now) }
+    ensures gives { Gives (λ x. (declaration_view x.0, x.1.now)) result (spec.declaration_with MOST_NESTING MOST_PATTERN_LEVELS rest.now) }
     ensures shorter { IfOk result (λ x. length x.1.now < length rest.now) }
 {
     if is_word(Word::Struct, rest) {
@@ -180,7 +181,7 @@ fn declaration_of(alloc: Global, rest: &[Token]) -> Read<'_, Declaration>
 
 /// The declarations of a file up to the `main` of its last statement, which is left.
 pub(crate) fn declarations_of(alloc: Global, rest: &[Token]) -> Read<'_, Row<Declaration>>
-    ensures { Gives (λ x. (map declaration_view x.0, x.1.now)) result (lists.separated_on spec.is_main (spec.declaration_with MOST_NESTING) [] rest.now) }
+    ensures { Gives (λ x. (map declaration_view x.0, x.1.now)) result (lists.separated_on spec.is_main (spec.declaration_with MOST_NESTING MOST_PATTERN_LEVELS) [] rest.now) }
 {
     let mut found = Row::new(alloc);
     let mut left = rest;

@@ -1,5 +1,5 @@
 //! The file.
-ghost use Rattle.std.specs.Prelude.{◌≡◌, ◌<◌, ◌^◌, length, Result, Ok, Err};
+ghost use Rattle.std.specs.Prelude.{◌<◌, ◌^◌, length, Result, Ok, Err};
 ghost use Rattle.own_expr.specs.Gives.{Gives};
 ghost use Rattle.own_grammar.specs.ReadingFile as spec;
 ghost use Rattle.own_tree.specs.View.{tree_view};
@@ -7,6 +7,7 @@ ghost use Rattle.own_tree.specs.View.{tree_view};
 use crate::declarations::declarations_of;
 use own_expr::tokens::{ReadError, after, here, is_mark, is_over, opens};
 use own_grammar::Context;
+use own_grammar::limits::MOST_PATTERN_LEVELS;
 use own_tree::limits::MOST_NESTING;
 use own_tree::tree::Tree;
 use own_tree::{Mark, Span, Token};
@@ -52,7 +53,7 @@ fn main_of(rest: &[Token]) -> Result<Span, ReadError>
 #[tactic(auto, unfolding(own_grammar::specs::ReadingFile::read_file))]
 pub(crate) fn file_of(alloc: Global, tokens: &[Token]) -> Result<Tree, ReadError>
     requires few { length tokens.now < 2 ^ 32 }
-    ensures { Gives tree_view result (spec.read_file MOST_NESTING tokens.now) }
+    ensures { Gives tree_view result (spec.read_file MOST_NESTING MOST_PATTERN_LEVELS tokens.now) }
 {
     let (declarations, last) = declarations_of(alloc, tokens)?;
     let main = main_of(last)?;

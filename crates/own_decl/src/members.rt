@@ -1,9 +1,8 @@
 //! Functions, and the members of structs and enums.
-ghost use Rattle.std.specs.Prelude.{◌≡◌, ◌≤◌, ◌<◌, length, [], true, IfOk, IfSome};
+ghost use Rattle.std.specs.Prelude.{◌≡◌, ◌≤◌, ◌<◌, length, [], IfOk};
 ghost use Rattle.own_expr.specs.Gives.{Gives};
 ghost use Rattle.own_grammar.specs.Declarations as declarations;
 ghost use Rattle.own_grammar.specs.Lists as lists;
-ghost use Rattle.own_grammar.specs.Nesting.{blk_span};
 ghost use Rattle.own_grammar.specs.Reading as reading;
 ghost use Rattle.own_grammar.specs.ReadingFile as spec;
 ghost use Rattle.own_tree.specs.Source as source;
@@ -14,6 +13,7 @@ use crate::types::{parameters_of, returns_of};
 use own_expr::tokens::{
     ReadError, after, body_goal, here, is_mark, is_word, keyword_at, kind_at, name_at, till,
 };
+use own_grammar::limits::MOST_PATTERN_LEVELS;
 use own_tree::limits::MOST_NESTING;
 use own_tree::tree::{
     Block, CaseItem, Deinitializer, EnumMember, Field, FunctionDeclaration, Initializer, Keyword,
@@ -46,7 +46,7 @@ fn changing_at(rest: &[Token]) -> Option<MethodMode>
 
 /// The block of a body. No node stands above it.
 fn block_of(alloc: Global, rest: &[Token]) -> Read<'_, Block>
-    ensures gives { Gives (λ x. (block_view x.0, x.1.now)) result (reading.read MOST_NESTING reading.Goal.body 0 rest.now) }
+    ensures gives { Gives (λ x. (block_view x.0, x.1.now)) result (reading.read MOST_NESTING MOST_PATTERN_LEVELS reading.Goal.body 0 rest.now) }
     ensures shorter { IfOk result (λ x. length x.1.now < length rest.now) }
 {
     let (block, _, more) = body_goal(alloc, rest, 0)?;
@@ -62,7 +62,7 @@ fn function_body_of<'a>(
     parameters: Row<Parameter>,
     rest: &'a [Token],
 ) -> Read<'a, FunctionDeclaration>
-    ensures gives { Gives (λ x. (function_view x.0, x.1.now)) result (spec.function_body_with MOST_NESTING from.now name parameters rest.now) }
+    ensures gives { Gives (λ x. (function_view x.0, x.1.now)) result (spec.function_body_with MOST_NESTING MOST_PATTERN_LEVELS from.now name parameters rest.now) }
     ensures shorter { IfOk result (λ x. length x.1.now < length rest.now) }
 {
     let (written, more) = returns_of(alloc, rest)?;
@@ -82,7 +82,7 @@ fn function_body_of<'a>(
 
 #[tactic(auto, unfolding(own_grammar::specs::ReadingFile::function_with, own_grammar::specs::ReadingFile::wanted))]
 pub(crate) fn function_of(alloc: Global, rest: &[Token]) -> Read<'_, FunctionDeclaration>
-    ensures gives { Gives (λ x. (function_view x.0, x.1.now)) result (spec.function_with MOST_NESTING rest.now) }
+    ensures gives { Gives (λ x. (function_view x.0, x.1.now)) result (spec.function_with MOST_NESTING MOST_PATTERN_LEVELS rest.now) }
     ensures shorter { IfOk result (λ x. length x.1.now < length rest.now) }
 {
     if !is_word(Word::Func, rest) {
@@ -98,7 +98,7 @@ pub(crate) fn function_of(alloc: Global, rest: &[Token]) -> Read<'_, FunctionDec
 
 #[tactic(auto, unfolding(own_grammar::specs::ReadingFile::method_with))]
 fn method_of(alloc: Global, rest: &[Token]) -> Read<'_, Method>
-    ensures gives { Gives (λ x. (method_view x.0, x.1.now)) result (spec.method_with MOST_NESTING rest.now) }
+    ensures gives { Gives (λ x. (method_view x.0, x.1.now)) result (spec.method_with MOST_NESTING MOST_PATTERN_LEVELS rest.now) }
     ensures shorter { IfOk result (λ x. length x.1.now < length rest.now) }
 {
     if let Some(mode) = changing_at(rest) {
@@ -161,7 +161,7 @@ fn field_of(alloc: Global, rest: &[Token], keyword: Keyword) -> Read<'_, Field>
 #[tactic(auto, unfolding(own_grammar::specs::ReadingFile::initializer_with))]
 fn initializer_of(alloc: Global, rest: &[Token]) -> Read<'_, Initializer>
     requires some { 0 < length rest.now }
-    ensures gives { Gives (λ x. (struct_member_view (StructMember.Initializer x.0), x.1.now)) result (spec.initializer_with MOST_NESTING rest.now) }
+    ensures gives { Gives (λ x. (struct_member_view (StructMember.Initializer x.0), x.1.now)) result (spec.initializer_with MOST_NESTING MOST_PATTERN_LEVELS rest.now) }
     ensures shorter { IfOk result (λ x. length x.1.now < length rest.now) }
 {
     let (parameters, more) = parameters_of(alloc, after(rest))?;
@@ -181,7 +181,7 @@ fn initializer_of(alloc: Global, rest: &[Token]) -> Read<'_, Initializer>
 #[tactic(auto, unfolding(own_grammar::specs::ReadingFile::deinitializer_with))]
 fn deinitializer_of(alloc: Global, rest: &[Token]) -> Read<'_, Deinitializer>
     requires some { 0 < length rest.now }
-    ensures gives { Gives (λ x. (deinitializer_view x.0, x.1.now)) result (spec.deinitializer_with MOST_NESTING rest.now) }
+    ensures gives { Gives (λ x. (deinitializer_view x.0, x.1.now)) result (spec.deinitializer_with MOST_NESTING MOST_PATTERN_LEVELS rest.now) }
     ensures shorter { IfOk result (λ x. length x.1.now < length rest.now) }
 {
     let (block, more) = block_of(alloc, after(rest))?;
@@ -191,7 +191,7 @@ fn deinitializer_of(alloc: Global, rest: &[Token]) -> Read<'_, Deinitializer>
 
 #[tactic(auto, unfolding(own_grammar::specs::ReadingFile::struct_member_with))]
 pub(crate) fn struct_member_of(alloc: Global, rest: &[Token]) -> Read<'_, StructMember>
-    ensures gives { Gives (λ x. (struct_member_view x.0, x.1.now)) result (spec.struct_member_with MOST_NESTING rest.now) }
+    ensures gives { Gives (λ x. (struct_member_view x.0, x.1.now)) result (spec.struct_member_with MOST_NESTING MOST_PATTERN_LEVELS rest.now) }
     ensures shorter { IfOk result (λ x. length x.1.now < length rest.now) }
 {
     if let Some(keyword) = keyword_at(rest) {
@@ -317,7 +317,7 @@ fn cases_of(alloc: Global, rest: &[Token]) -> Read<'_, EnumMember>
 
 #[tactic(auto, unfolding(own_grammar::specs::ReadingFile::enum_member_with))]
 pub(crate) fn enum_member_of(alloc: Global, rest: &[Token]) -> Read<'_, EnumMember>
-    ensures gives { Gives (λ x. (enum_member_view x.0, x.1.now)) result (spec.enum_member_with MOST_NESTING rest.now) }
+    ensures gives { Gives (λ x. (enum_member_view x.0, x.1.now)) result (spec.enum_member_with MOST_NESTING MOST_PATTERN_LEVELS rest.now) }
     ensures shorter { IfOk result (λ x. length x.1.now < length rest.now) }
 {
     if is_word(Word::Case, rest) {

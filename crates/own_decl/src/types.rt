@@ -1,5 +1,5 @@
 //! Results, written types and parameters.
-ghost use Rattle.std.specs.Prelude.{◌≡◌, ◌≤◌, ◌<◌, length, [], true, IfOk, IfSome};
+ghost use Rattle.std.specs.Prelude.{◌≡◌, ◌≤◌, ◌<◌, length, [], IfOk};
 ghost use Rattle.own_expr.specs.Gives.{Gives};
 ghost use Rattle.own_grammar.specs.Declarations as declarations;
 ghost use Rattle.own_grammar.specs.Lists as lists;

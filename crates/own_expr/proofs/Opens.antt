@@ -2,6 +2,7 @@
 use Rattle.std.proofs.Common.{◌≡◌, ℕ, zero, suc, ◌+◌, ◌-◌, ◌<◌, ◌≤◌, max, Bool, true, false, List, [], ◌∷◌, ◌++◌, map, length, Some, None, Ok, refl, sym, ap, ◌∙◌, arith}
 use Rattle.std.proofs.lemmas.List.{map-append}
 use Rattle.own_tree.specs.declared.limits.TheConstants.{MOST_NESTING}
+use Rattle.own_grammar.specs.declared.limits.TheConstants.{MOST_PATTERN_LEVELS}
 use Rattle.own_tree.specs.declared.token.Mark.{Mark}
 use Rattle.own_tree.specs.declared.token.Mark.TheVariants as mark
 use Rattle.own_tree.specs.declared.token.Kind.TheVariants as kind
@@ -15,54 +16,55 @@ use Rattle.own_grammar.specs.declared.Context.{Context}
 use Rattle.own_grammar.specs.declared.Context.TheVariants.{Plain}
 use Rattle.own_grammar.specs.Tests.{Toks, after, kind_at, root_at, is_mark, is_word}
 use Rattle.own_grammar.specs.Nesting.{nest_given, nest_args, nest_stm, nest_stms, nest_when, nest_clauses}
-use Rattle.own_grammar.specs.Reading.{◌>>=◌, expression, operand, operators_on, calls_on, arguments_on, statement, statements_on, clause_on, clauses_on, body, Reader, parenthesized_with, primary_with, pre_with, level_with, operators_with, expression_with, argument_with, arguments_with, calls_with, statement_with, separated_with, statements_with, ends_clause, clause_statements_with, where_with, clause_with, clauses_with, block_with, literal_at, step, read}
+use Rattle.own_grammar.specs.Reading.{◌>>=◌, expression, operand, operators_on, calls_on, arguments_on, statement, statements_on, clause_on, clauses_on, body, Reader, parenthesized_with, primary_with, pre_with, level_with, operators_with, expression_with, argument_with, arguments_with, calls_with, statement_with, separated_with, statements_with, ends_clause, clause_statements_with, where_with, clause_with, clauses_with, block_with, literal_at, step}
 use Rattle.own_grammar.proofs.Facts.{mark_kind, no_negative, at_mark}
 use Rattle.own_grammar.proofs.Same.{read_is}
 use Rattle.own_expr.specs.declared.fault.ReadError.{ReadError}
 use Rattle.own_expr.specs.declared.fault.ReadError.TheVariants as errors
 use Rattle.own_expr.specs.Gives.{Fails}
+use Rattle.own_expr.specs.Reads.{reader}
 
 -- ---- the goals
 
-pub expression_is : (context : Context) (d : ℕ) (ts : Toks) → read MOST_NESTING (expression context) d ts ≡ expression_with MOST_NESTING (read MOST_NESTING) context d ts
+pub expression_is : (context : Context) (d : ℕ) (ts : Toks) → reader (expression context) d ts ≡ expression_with MOST_NESTING reader context d ts
 unfolding step
-expression_is context d ts = read_is MOST_NESTING (expression context) d ts
+expression_is context d ts = read_is MOST_NESTING MOST_PATTERN_LEVELS (omega arith) (expression context) d ts
 
-pub operand_is : (context : Context) (d : ℕ) (ts : Toks) → read MOST_NESTING (operand context) d ts ≡ pre_with MOST_NESTING (read MOST_NESTING) true context d ts
+pub operand_is : (context : Context) (d : ℕ) (ts : Toks) → reader (operand context) d ts ≡ pre_with MOST_NESTING reader true context d ts
 unfolding step
-operand_is context d ts = read_is MOST_NESTING (operand context) d ts
+operand_is context d ts = read_is MOST_NESTING MOST_PATTERN_LEVELS (omega arith) (operand context) d ts
 
-pub operators_is : (j : ℕ) (context : Context) (e : Exp) (d : ℕ) (ts : Toks) → read MOST_NESTING (operators_on j context e) d ts ≡ operators_with MOST_NESTING (read MOST_NESTING) j context e d ts
+pub operators_is : (j : ℕ) (context : Context) (e : Exp) (d : ℕ) (ts : Toks) → reader (operators_on j context e) d ts ≡ operators_with MOST_NESTING reader j context e d ts
 unfolding step
-operators_is j context e d ts = read_is MOST_NESTING (operators_on j context e) d ts
+operators_is j context e d ts = read_is MOST_NESTING MOST_PATTERN_LEVELS (omega arith) (operators_on j context e) d ts
 
-pub calls_is : (context : Context) (e : Exp) (d : ℕ) (ts : Toks) → read MOST_NESTING (calls_on context e) d ts ≡ calls_with MOST_NESTING (read MOST_NESTING) context e d ts
+pub calls_is : (context : Context) (e : Exp) (d : ℕ) (ts : Toks) → reader (calls_on context e) d ts ≡ calls_with MOST_NESTING reader context e d ts
 unfolding step
-calls_is context e d ts = read_is MOST_NESTING (calls_on context e) d ts
+calls_is context e d ts = read_is MOST_NESTING MOST_PATTERN_LEVELS (omega arith) (calls_on context e) d ts
 
-pub arguments_is : (xs : List Arg) (d : ℕ) (ts : Toks) → read MOST_NESTING (arguments_on xs) d ts ≡ arguments_with MOST_NESTING (read MOST_NESTING) xs d ts
+pub arguments_is : (xs : List Arg) (d : ℕ) (ts : Toks) → reader (arguments_on xs) d ts ≡ arguments_with MOST_NESTING reader xs d ts
 unfolding step
-arguments_is xs d ts = read_is MOST_NESTING (arguments_on xs) d ts
+arguments_is xs d ts = read_is MOST_NESTING MOST_PATTERN_LEVELS (omega arith) (arguments_on xs) d ts
 
-pub statement_is : (d : ℕ) (ts : Toks) → read MOST_NESTING statement d ts ≡ statement_with MOST_NESTING (read MOST_NESTING) d ts
+pub statement_is : (d : ℕ) (ts : Toks) → reader statement d ts ≡ statement_with MOST_NESTING reader d ts
 unfolding step
-statement_is d ts = read_is MOST_NESTING statement d ts
+statement_is d ts = read_is MOST_NESTING MOST_PATTERN_LEVELS (omega arith) statement d ts
 
-pub statements_is : (ss : List Stm) (d : ℕ) (ts : Toks) → read MOST_NESTING (statements_on ss) d ts ≡ statements_with MOST_NESTING (read MOST_NESTING) ss d ts
+pub statements_is : (ss : List Stm) (d : ℕ) (ts : Toks) → reader (statements_on ss) d ts ≡ statements_with MOST_NESTING reader ss d ts
 unfolding step
-statements_is ss d ts = read_is MOST_NESTING (statements_on ss) d ts
+statements_is ss d ts = read_is MOST_NESTING MOST_PATTERN_LEVELS (omega arith) (statements_on ss) d ts
 
-pub clause_is : (ss : List Stm) (d : ℕ) (ts : Toks) → read MOST_NESTING (clause_on ss) d ts ≡ clause_statements_with MOST_NESTING (read MOST_NESTING) ss d ts
+pub clause_is : (ss : List Stm) (d : ℕ) (ts : Toks) → reader (clause_on ss) d ts ≡ clause_statements_with MOST_NESTING reader ss d ts
 unfolding step
-clause_is ss d ts = read_is MOST_NESTING (clause_on ss) d ts
+clause_is ss d ts = read_is MOST_NESTING MOST_PATTERN_LEVELS (omega arith) (clause_on ss) d ts
 
-pub clauses_is : (cs : List Cla) (d : ℕ) (ts : Toks) → read MOST_NESTING (clauses_on cs) d ts ≡ clauses_with MOST_NESTING (read MOST_NESTING) cs d ts
+pub clauses_is : (cs : List Cla) (d : ℕ) (ts : Toks) → reader (clauses_on cs) d ts ≡ clauses_with MOST_PATTERN_LEVELS reader cs d ts
 unfolding step
-clauses_is cs d ts = read_is MOST_NESTING (clauses_on cs) d ts
+clauses_is cs d ts = read_is MOST_NESTING MOST_PATTERN_LEVELS (omega arith) (clauses_on cs) d ts
 
-pub body_is : (d : ℕ) (ts : Toks) → read MOST_NESTING body d ts ≡ block_with MOST_NESTING (read MOST_NESTING) d ts
+pub body_is : (d : ℕ) (ts : Toks) → reader body d ts ≡ block_with MOST_NESTING reader d ts
 unfolding step
-body_is d ts = read_is MOST_NESTING body d ts
+body_is d ts = read_is MOST_NESTING MOST_PATTERN_LEVELS (omega arith) body d ts
 
 -- ---- single productions
 
@@ -135,13 +137,10 @@ clauses_nest (x ∷ xs) c = let i = clauses_nest xs c in omega arith
 -- ---- arguments
 
 pub record ArgumentsOn (d : ℕ) (initial : Toks) (found : List Argument) (height : ℕ) (rest : Toks) : Type 0 where
-  pub whole : arguments_with MOST_NESTING (read MOST_NESTING) (map argument_view found) d rest ≡ arguments_with MOST_NESTING (read MOST_NESTING) [] d initial
+  pub whole : arguments_with MOST_NESTING reader (map argument_view found) d rest ≡ arguments_with MOST_NESTING reader [] d initial
   pub high : height ≡ nest_args (args_of (map argument_view found))
   pub fits : d + height < MOST_NESTING
   pub within : length rest ≤ length initial
-
-pub arguments_begin : (d : ℕ) (initial : Toks) → d < MOST_NESTING → ArgumentsOn d initial [] 0 initial
-arguments_begin d initial lt = record { whole = refl; high = refl; fits = omega arith; within = omega arith }
 
 pub arguments_high : (found : List Argument) (height : ℕ) (a : Argument) (h : ℕ) → height ≡ nest_args (args_of (map argument_view found)) → h ≡ nest_given (argument_view a).1 → max height h ≡ nest_args (args_of (map argument_view (found ++ a ∷ [])))
 arguments_high found height a h high one =
@@ -149,7 +148,7 @@ arguments_high found height a h high one =
     let n = args_nest (map argument_view found) (argument_view a) in
     rw (view, n) (omega arith)
 
-pub arguments_go : (d : ℕ) (initial : Toks) (found : List Argument) (height : ℕ) (rest : Toks) (a : Argument) (h : ℕ) (more next : Toks) → argument_with MOST_NESTING (read MOST_NESTING) d rest ≡ Ok (argument_view a, more) → is_mark mark.Comma more ≡ true → next ≡ after more
+pub arguments_go : (d : ℕ) (initial : Toks) (found : List Argument) (height : ℕ) (rest : Toks) (a : Argument) (h : ℕ) (more next : Toks) → argument_with MOST_NESTING reader d rest ≡ Ok (argument_view a, more) → is_mark mark.Comma more ≡ true → next ≡ after more
     → h ≡ nest_given (argument_view a).1 → d + h < MOST_NESTING → length next ≤ length rest → ArgumentsOn d initial found height rest → ArgumentsOn d initial (found ++ a ∷ []) (max height h) next
 unfolding arguments_with
 arguments_go d initial found height rest a h more next read_ comma is high fit le on =
@@ -162,13 +161,13 @@ arguments_go d initial found height rest a h more next read_ comma is high fit l
       within = omega arith;
     }
 
-pub arguments_end : (d : ℕ) (initial : Toks) (found : List Argument) (height : ℕ) (rest : Toks) (a : Argument) (more : Toks) → argument_with MOST_NESTING (read MOST_NESTING) d rest ≡ Ok (argument_view a, more) → is_mark mark.Comma more ≡ false
-    → ArgumentsOn d initial found height rest → arguments_with MOST_NESTING (read MOST_NESTING) [] d initial ≡ Ok (map argument_view (found ++ a ∷ []), more)
+pub arguments_end : (d : ℕ) (initial : Toks) (found : List Argument) (height : ℕ) (rest : Toks) (a : Argument) (more : Toks) → argument_with MOST_NESTING reader d rest ≡ Ok (argument_view a, more) → is_mark mark.Comma more ≡ false
+    → ArgumentsOn d initial found height rest → arguments_with MOST_NESTING reader [] d initial ≡ Ok (map argument_view (found ++ a ∷ []), more)
 unfolding arguments_with
 arguments_end d initial found height rest a more read_ comma on =
     sym on.whole ∙ rw (read_, comma) (ap (λ (xs : List Arg). Ok (xs, more)) (sym (map-append argument_view found (a ∷ []))))
 
-pub arguments_fail : (e : ReadError) (d : ℕ) (initial : Toks) (found : List Argument) (height : ℕ) (rest : Toks) → Fails e (argument_with MOST_NESTING (read MOST_NESTING) d rest) → ArgumentsOn d initial found height rest → Fails e (arguments_with MOST_NESTING (read MOST_NESTING) [] d initial)
+pub arguments_fail : (e : ReadError) (d : ℕ) (initial : Toks) (found : List Argument) (height : ℕ) (rest : Toks) → Fails e (argument_with MOST_NESTING reader d rest) → ArgumentsOn d initial found height rest → Fails e (arguments_with MOST_NESTING reader [] d initial)
 unfolding arguments_with
 arguments_fail errors.Memory d initial found height rest f on = tt
 arguments_fail (errors.Syntax n) d initial found height rest f on = sym on.whole ∙ rw f refl
@@ -183,15 +182,12 @@ statements_high found height s h high one =
     rw (view, n) (omega arith)
 
 pub record StatementsOn (d : ℕ) (initial : Toks) (found : List Stmt) (height : ℕ) (rest : Toks) : Type 0 where
-  pub whole : read MOST_NESTING (statements_on (map stmt_view found)) d rest ≡ read MOST_NESTING (statements_on []) d initial
+  pub whole : reader (statements_on (map stmt_view found)) d rest ≡ reader (statements_on []) d initial
   pub high : height ≡ nest_stms (stms_of (map stmt_view found))
   pub fits : d + height ≤ MOST_NESTING
   pub within : length rest ≤ length initial
 
-pub statements_begin : (d : ℕ) (initial : Toks) → d ≤ MOST_NESTING → StatementsOn d initial [] 0 initial
-statements_begin d initial lt = record { whole = refl; high = refl; fits = omega arith; within = omega arith }
-
-pub statements_go : (d : ℕ) (initial : Toks) (found : List Stmt) (height : ℕ) (rest : Toks) (s : Stmt) (h : ℕ) (more : Toks) → is_mark mark.CloseBrace rest ≡ false → separated_with MOST_NESTING (read MOST_NESTING) d rest ≡ Ok (stmt_view s, more)
+pub statements_go : (d : ℕ) (initial : Toks) (found : List Stmt) (height : ℕ) (rest : Toks) (s : Stmt) (h : ℕ) (more : Toks) → is_mark mark.CloseBrace rest ≡ false → separated_with MOST_NESTING reader d rest ≡ Ok (stmt_view s, more)
     → h ≡ nest_stm (stmt_view s) → d + h ≤ MOST_NESTING → length more < length rest → StatementsOn d initial found height rest → StatementsOn d initial (found ++ s ∷ []) (max height h) more
 unfolding statements_with
 statements_go d initial found height rest s h more open_ read_ high fit le on =
@@ -204,11 +200,11 @@ statements_go d initial found height rest s h more open_ read_ high fit le on =
       within = omega arith;
     }
 
-pub statements_end : (d : ℕ) (initial : Toks) (found : List Stmt) (height : ℕ) (rest : Toks) → is_mark mark.CloseBrace rest ≡ true → StatementsOn d initial found height rest → read MOST_NESTING (statements_on []) d initial ≡ Ok (map stmt_view found, rest)
+pub statements_end : (d : ℕ) (initial : Toks) (found : List Stmt) (height : ℕ) (rest : Toks) → is_mark mark.CloseBrace rest ≡ true → StatementsOn d initial found height rest → reader (statements_on []) d initial ≡ Ok (map stmt_view found, rest)
 unfolding statements_with
 statements_end d initial found height rest close on = sym on.whole ∙ statements_is (map stmt_view found) d rest ∙ rw close refl
 
-pub statements_fail : (e : ReadError) (d : ℕ) (initial : Toks) (found : List Stmt) (height : ℕ) (rest : Toks) → is_mark mark.CloseBrace rest ≡ false → Fails e (separated_with MOST_NESTING (read MOST_NESTING) d rest) → StatementsOn d initial found height rest → Fails e (read MOST_NESTING (statements_on []) d initial)
+pub statements_fail : (e : ReadError) (d : ℕ) (initial : Toks) (found : List Stmt) (height : ℕ) (rest : Toks) → is_mark mark.CloseBrace rest ≡ false → Fails e (separated_with MOST_NESTING reader d rest) → StatementsOn d initial found height rest → Fails e (reader (statements_on []) d initial)
 unfolding statements_with
 statements_fail errors.Memory d initial found height rest open_ f on = tt
 statements_fail (errors.Syntax n) d initial found height rest open_ f on = sym on.whole ∙ statements_is (map stmt_view found) d rest ∙ rw (open_, f) refl
@@ -217,15 +213,12 @@ statements_fail (errors.Depth n) d initial found height rest open_ f on = sym on
 -- ---- the statements of a clause
 
 pub record ClauseOn (d : ℕ) (initial : Toks) (found : List Stmt) (height : ℕ) (rest : Toks) : Type 0 where
-  pub whole : read MOST_NESTING (clause_on (map stmt_view found)) d rest ≡ read MOST_NESTING (clause_on []) d initial
+  pub whole : reader (clause_on (map stmt_view found)) d rest ≡ reader (clause_on []) d initial
   pub high : height ≡ nest_stms (stms_of (map stmt_view found))
   pub fits : d + height ≤ MOST_NESTING
   pub within : length rest ≤ length initial
 
-pub clause_begin : (d : ℕ) (initial : Toks) → d ≤ MOST_NESTING → ClauseOn d initial [] 0 initial
-clause_begin d initial lt = record { whole = refl; high = refl; fits = omega arith; within = omega arith }
-
-pub clause_go : (d : ℕ) (initial : Toks) (found : List Stmt) (height : ℕ) (rest : Toks) (s : Stmt) (h : ℕ) (more : Toks) → separated_with MOST_NESTING (read MOST_NESTING) d rest ≡ Ok (stmt_view s, more) → ends_clause more ≡ false
+pub clause_go : (d : ℕ) (initial : Toks) (found : List Stmt) (height : ℕ) (rest : Toks) (s : Stmt) (h : ℕ) (more : Toks) → separated_with MOST_NESTING reader d rest ≡ Ok (stmt_view s, more) → ends_clause more ≡ false
     → h ≡ nest_stm (stmt_view s) → d + h ≤ MOST_NESTING → length more < length rest → ClauseOn d initial found height rest → ClauseOn d initial (found ++ s ∷ []) (max height h) more
 unfolding clause_statements_with
 clause_go d initial found height rest s h more read_ open_ high fit le on =
@@ -238,13 +231,13 @@ clause_go d initial found height rest s h more read_ open_ high fit le on =
       within = omega arith;
     }
 
-pub clause_end : (d : ℕ) (initial : Toks) (found : List Stmt) (height : ℕ) (rest : Toks) (s : Stmt) (more : Toks) → separated_with MOST_NESTING (read MOST_NESTING) d rest ≡ Ok (stmt_view s, more) → ends_clause more ≡ true
-    → ClauseOn d initial found height rest → read MOST_NESTING (clause_on []) d initial ≡ Ok (map stmt_view (found ++ s ∷ []), more)
+pub clause_end : (d : ℕ) (initial : Toks) (found : List Stmt) (height : ℕ) (rest : Toks) (s : Stmt) (more : Toks) → separated_with MOST_NESTING reader d rest ≡ Ok (stmt_view s, more) → ends_clause more ≡ true
+    → ClauseOn d initial found height rest → reader (clause_on []) d initial ≡ Ok (map stmt_view (found ++ s ∷ []), more)
 unfolding clause_statements_with
 clause_end d initial found height rest s more read_ close on =
     sym on.whole ∙ clause_is (map stmt_view found) d rest ∙ rw (read_, close) (ap (λ (xs : List Stm). Ok (xs, more)) (sym (map-append stmt_view found (s ∷ []))))
 
-pub clause_fail : (e : ReadError) (d : ℕ) (initial : Toks) (found : List Stmt) (height : ℕ) (rest : Toks) → Fails e (separated_with MOST_NESTING (read MOST_NESTING) d rest) → ClauseOn d initial found height rest → Fails e (read MOST_NESTING (clause_on []) d initial)
+pub clause_fail : (e : ReadError) (d : ℕ) (initial : Toks) (found : List Stmt) (height : ℕ) (rest : Toks) → Fails e (separated_with MOST_NESTING reader d rest) → ClauseOn d initial found height rest → Fails e (reader (clause_on []) d initial)
 unfolding clause_statements_with
 clause_fail errors.Memory d initial found height rest f on = tt
 clause_fail (errors.Syntax n) d initial found height rest f on = sym on.whole ∙ clause_is (map stmt_view found) d rest ∙ rw f refl
@@ -262,15 +255,12 @@ clauses_high found height c h high one =
     rw (view, n) (omega arith)
 
 pub record ClausesOn (d : ℕ) (initial : Toks) (found : List Clause) (height : ℕ) (rest : Toks) : Type 0 where
-  pub whole : read MOST_NESTING (clauses_on (map clause_view found)) d rest ≡ read MOST_NESTING (clauses_on []) d initial
+  pub whole : reader (clauses_on (map clause_view found)) d rest ≡ reader (clauses_on []) d initial
   pub high : height ≡ nest_clauses (clauses_of (map clause_view found))
   pub fits : d + height ≤ MOST_NESTING
   pub within : length rest ≤ length initial
 
-pub clauses_begin : (d : ℕ) (initial : Toks) → d ≤ MOST_NESTING → ClausesOn d initial [] 0 initial
-clauses_begin d initial lt = record { whole = refl; high = refl; fits = omega arith; within = omega arith }
-
-pub clauses_go : (d : ℕ) (initial : Toks) (found : List Clause) (height : ℕ) (rest : Toks) (c : Clause) (h : ℕ) (more : Toks) → is_mark mark.CloseBrace rest ≡ false → clause_with MOST_NESTING (read MOST_NESTING) d rest ≡ Ok (clause_view c, more)
+pub clauses_go : (d : ℕ) (initial : Toks) (found : List Clause) (height : ℕ) (rest : Toks) (c : Clause) (h : ℕ) (more : Toks) → is_mark mark.CloseBrace rest ≡ false → clause_with MOST_PATTERN_LEVELS reader d rest ≡ Ok (clause_view c, more)
     → h ≡ nest_cla (clause_view c) → d + h ≤ MOST_NESTING → length more < length rest → ClausesOn d initial found height rest → ClausesOn d initial (found ++ c ∷ []) (max height h) more
 unfolding clauses_with
 clauses_go d initial found height rest c h more open_ read_ high fit le on =
@@ -283,11 +273,11 @@ clauses_go d initial found height rest c h more open_ read_ high fit le on =
       within = omega arith;
     }
 
-pub clauses_end : (d : ℕ) (initial : Toks) (found : List Clause) (height : ℕ) (rest : Toks) → is_mark mark.CloseBrace rest ≡ true → ClausesOn d initial found height rest → read MOST_NESTING (clauses_on []) d initial ≡ Ok (map clause_view found, rest)
+pub clauses_end : (d : ℕ) (initial : Toks) (found : List Clause) (height : ℕ) (rest : Toks) → is_mark mark.CloseBrace rest ≡ true → ClausesOn d initial found height rest → reader (clauses_on []) d initial ≡ Ok (map clause_view found, rest)
 unfolding clauses_with
 clauses_end d initial found height rest close on = sym on.whole ∙ clauses_is (map clause_view found) d rest ∙ rw close refl
 
-pub clauses_fail : (e : ReadError) (d : ℕ) (initial : Toks) (found : List Clause) (height : ℕ) (rest : Toks) → is_mark mark.CloseBrace rest ≡ false → Fails e (clause_with MOST_NESTING (read MOST_NESTING) d rest) → ClausesOn d initial found height rest → Fails e (read MOST_NESTING (clauses_on []) d initial)
+pub clauses_fail : (e : ReadError) (d : ℕ) (initial : Toks) (found : List Clause) (height : ℕ) (rest : Toks) → is_mark mark.CloseBrace rest ≡ false → Fails e (clause_with MOST_PATTERN_LEVELS reader d rest) → ClausesOn d initial found height rest → Fails e (reader (clauses_on []) d initial)
 unfolding clauses_with
 clauses_fail errors.Memory d initial found height rest open_ f on = tt
 clauses_fail (errors.Syntax n) d initial found height rest open_ f on = sym on.whole ∙ clauses_is (map clause_view found) d rest ∙ rw (open_, f) refl

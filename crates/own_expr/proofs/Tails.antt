@@ -2,13 +2,14 @@
 use Rattle.std.proofs.Common.{◌≡◌, ℕ, ◌+◌, ◌-◌, ◌≤◌, Bool, true, false, List, [], ◌∷◌, ◌++◌, append_assoc, length, Option, Some, None, inl, inr, refl, sym, ap, ◌∙◌, drop, take, length-append, arith}
 use Rattle.std.proofs.lemmas.List.{take-append-drop}
 use Rattle.std.proofs.Math.Seq.{drop-append_seam}
+use Rattle.own_tree.specs.declared.tree.ClosureName.{ClosureName}
 use Rattle.own_tree.specs.declared.tree.Name.{Name}
 use Rattle.own_tree.specs.declared.tree.Path.{Path}
 use Rattle.own_tree.specs.declared.span.Span.{Span}
 use Rattle.own_tree.specs.Source.{LetPat, let_any, let_bind, let_case, let_number, let_truth, LetPats, no_let_pats, let_pat, Pat, any, bind, bind_case, on_case, on_number, on_truth, Pats, no_pats, pat, Exp, number, text, truth, path, implicit_member, parenthesized, consumed, prefix, binary, choice, member, call, call_closing, call_closure, Given, value, address, closing, Args, no_args, arg, Clo, closure, Stm, let_in, declare, assign, ignore, discard_self, if_then, if_else, else_if, loop_while, loop_repeat, loop_for, switch, leave, go_on, return_none, return_value, evaluate, Stms, no_stms, stm, When, case_of, case_where, default, Clauses, no_clauses, clause, Blk, block}
 use Rattle.own_grammar.specs.declared.Context.{Context}
 use Rattle.own_grammar.specs.declared.Context.TheVariants.{Plain, Condition, Inside}
-use Rattle.own_grammar.specs.Tests.{Toks, after, binder_at, names_at, name_then, names_or, closure_head}
+use Rattle.own_grammar.specs.Tests.{Toks, after, closure_name_at, names_at, name_then, names_or, closure_head}
 use Rattle.own_grammar.specs.Nesting.{is_return}
 use Rattle.own_grammar.specs.Spells.{Fields, SpellsPath, Typed, SpellsNumber, SpellsLetPat, SpellsLetPats, SpellsPat, SpellsPats, Sep, Labels, Ignored, SpellsE, SpellsG, SpellsA, SpellsK, SpellsS, SpellsL, SpellsN, SpellsH, SpellsC, SpellsB}
 use Rattle.own_grammar.specs.Partial.{PLetPat, gone_let, p_let_case, PLetPats, p_let_pat, p_next_let, PPat, gone_pattern, p_bind_case, p_case, PPats, p_pattern, p_next_pattern, PExp, gone, p_parenthesized, p_consumed, p_prefix, p_binary, p_first, p_second, p_member, p_call, p_unclosed, p_call_closing, p_call_closure, PGiven, p_value, p_address, p_closing, PArgs, no_more, p_arg, p_then, PClo, p_opened, p_closure, PStm, gone_stm, p_let, p_assign, p_ignore, p_if, p_if_then, p_if_else, p_else_if, p_while, p_while_do, p_repeat, p_repeat_while, p_from, p_to, p_for, p_subject, p_switch, p_return, p_evaluate, PStms, p_stm, p_next, PClauses, p_patterns, p_where, p_clause, p_next_clause, PBlk, gone_block, p_block, PartLetPat, PartLetPats, PartPat, PartPats, PartE, PartG, PartA, PartK, PartS, PartL, PartC, PartB}
@@ -98,7 +99,7 @@ mutual
 -- ---- the names of a closure
 
 abbrev Head : Type 0
-Head = List (Option Name) × Toks
+Head = List ClosureName × Toks
 
 some_is : (x y : Head) → Some x ≡ Some y → x.1 ≡ y.1
 some_is x y e = ap (λ (r : Head). r.1) equal
@@ -106,20 +107,20 @@ some_is x y e = ap (λ (r : Head). r.1) equal
     equal : x ≡ y
     equal = cc
 
-names_tail : (ts us : Toks) (ns : List (Option Name)) → names_at ts ≡ Some (ns, us) → Tail ts us
+names_tail : (ts us : Toks) (ns : List ClosureName) → names_at ts ≡ Some (ns, us) → Tail ts us
 unfolding names_at
 names_tail [] us ns e = absurd cc
 names_tail (t ∷ []) us ns e = absurd cc
-names_tail (t ∷ u ∷ ts) us ns e = by_parts (binder_at (t ∷ u ∷ ts)) _ _ (names_at ts) e (λ ms. names_tail ts us ms)
+names_tail (t ∷ u ∷ ts) us ns e = by_parts (closure_name_at (t ∷ u ∷ ts)) _ _ (names_at ts) e (λ ms. names_tail ts us ms)
   where
-    by_parts : (b : Option (Option Name)) (comma ends : Bool) (more : Option (List (Option Name) × Toks)) → name_then b comma ends more ts ≡ Some (ns, us) → ((ms : List (Option Name)) → more ≡ Some (ms, us) → Tail ts us) → Tail (t ∷ u ∷ ts) us
+    by_parts : (b : Option ClosureName) (comma ends : Bool) (more : Option (List ClosureName × Toks)) → name_then b comma ends more ts ≡ Some (ns, us) → ((ms : List ClosureName) → more ≡ Some (ms, us) → Tail ts us) → Tail (t ∷ u ∷ ts) us
     by_parts None comma ends more h ih = absurd cc
     by_parts (Some n) true ends None h ih = absurd cc
     by_parts (Some n) true ends (Some r) h ih = (let equal = some_is (n ∷ r.0, r.1) (ns, us) h in two (t ∷ u ∷ ts) then ih r.0 (rw (← equal) refl))
     by_parts (Some n) false true more h ih = (let equal = some_is (n ∷ [], ts) (ns, us) h in rw (← equal) (two (t ∷ u ∷ ts)))
     by_parts (Some n) false false more h ih = absurd cc
 
-head_by : (ts : Toks) (o : Option (List (Option Name) × Toks)) → names_at ts ≡ o → Tail ts (names_or o ts).1
+head_by : (ts : Toks) (o : Option (List ClosureName × Toks)) → names_at ts ≡ o → Tail ts (names_or o ts).1
 head_by ts None e = same ts
 head_by ts (Some r) e = names_tail ts r.1 r.0 e
 
@@ -127,7 +128,7 @@ head_at : (ts : Toks) → Tail ts (closure_head ts).1
 unfolding closure_head
 head_at ts = head_by ts (names_at ts) refl
 
-head_tail : (ts start : Toks) (ns : List (Option Name)) → closure_head ts ≡ (ns, start) → Tail ts start
+head_tail : (ts start : Toks) (ns : List ClosureName) → closure_head ts ≡ (ns, start) → Tail ts start
 head_tail ts start ns e = let equal : (closure_head ts).1 ≡ start = ap (λ (r : Head). r.1) e in rw (← equal) (head_at ts)
 
 -- ---- what is spelled

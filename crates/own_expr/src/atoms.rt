@@ -1,6 +1,7 @@
 //! Expressions of one token or a path.
 ghost use Rattle.std.specs.Prelude.{◌≡◌, ◌≤◌, ◌<◌, ◌+◌, length, false, IfOk};
 ghost use Rattle.own_expr.specs.Gives.{Gives};
+ghost use Rattle.own_expr.specs.Reads.{reader};
 ghost use Rattle.own_grammar.specs.Nesting.{nest};
 ghost use Rattle.own_grammar.specs.Reading as spec;
 ghost use Rattle.own_grammar.specs.Tests as tests;
@@ -25,7 +26,7 @@ pub(crate) fn atom_of(
 ) -> Result<(Expr, u32, &[Token]), ReadError>
     requires limit { depth < MOST_NESTING }
     requires plain { tests.is_mark Mark.OpenParen rest.now ≡ false }
-    ensures gives { Gives (λ x. (expr_view x.0, x.2.now)) result (spec.primary_with (spec.read MOST_NESTING) tight depth rest.now) }
+    ensures gives { Gives (λ x. (expr_view x.0, x.2.now)) result (spec.primary_with reader tight depth rest.now) }
     ensures height { IfOk result (λ x. x.1 ≡ nest (expr_view x.0)) }
     ensures fits { IfOk result (λ x. depth + x.1 ≤ MOST_NESTING) }
     ensures shorter { IfOk result (λ x. length x.2.now < length rest.now) }

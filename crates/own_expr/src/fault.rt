@@ -26,3 +26,10 @@ impl<T: Drop> From<AllocFailed<T>> for ReadError {
         ReadError::Memory
     }
 }
+
+/// A fault that came after `part` was read, which is let go.
+pub(crate) fn without<T: Drop>(_part: T, fault: ReadError) -> ReadError
+    ensures { result ≡ fault }
+{
+    fault
+}

@@ -1,16 +1,14 @@
 //! Patterns after a `let`, in which names bind.
-ghost use Rattle.std.specs.Prelude.{◌≡◌, ◌≤◌, ◌<◌, ◌+◌, length, map, [], IfOk};
+ghost use Rattle.std.specs.Prelude.{◌≡◌, ◌<◌, ◌+◌, length, map, [], IfOk};
 ghost use Rattle.own_expr.specs.Gives.{Gives};
-ghost use Rattle.own_grammar.specs.Nesting.{nest_let_pat, nest_let_pats};
 ghost use Rattle.own_grammar.specs.Reading as spec;
 ghost use Rattle.own_tree.specs.Source as source;
 ghost use Rattle.own_tree.specs.View.{let_pattern_view, let_pats_of};
 
 use crate::fault::ReadError;
 use crate::next::{after, here, is_mark, name_at, number_at, till, truth_at};
-use crate::nodes::larger;
 use crate::operators::negative_at;
-use own_tree::limits::MOST_NESTING;
+use own_grammar::limits::MOST_PATTERN_LEVELS;
 use own_tree::tree::{LetPattern, Name};
 use own_tree::{Mark, Span, Token};
 use sqlite_items::Items;
@@ -20,7 +18,6 @@ use std::alloc::Global;
 #[tactic(auto, unfolding(own_grammar::specs::Reading::let_literal_with))]
 fn let_literal_of(rest: &[Token]) -> Result<(LetPattern, &[Token]), ReadError>
     ensures gives { Gives (λ x. (let_pattern_view x.0, x.1.now)) result (spec.let_literal_with rest.now) }
-    ensures height { IfOk result (λ x. nest_let_pat (let_pattern_view x.0) ≡ 0) }
     ensures shorter { IfOk result (λ x. length x.1.now < length rest.now) }
 {
     if let Some(truth) = truth_at(rest) {
@@ -52,23 +49,20 @@ fn let_parts_of<'a>(
     rest: &'a [Token],
     from: &[Token],
     name: Name,
-    depth: u32,
-) -> Result<(LetPattern, u32, &'a [Token]), ReadError>
-    requires limit { depth ≤ MOST_NESTING }
-    ensures gives { Gives (λ x. (let_pattern_view x.0, x.2.now)) result (spec.let_parts_with MOST_NESTING (spec.read_pattern MOST_NESTING) depth from.now name rest.now) }
-    ensures height { IfOk result (λ x. x.1 ≡ nest_let_pat (let_pattern_view x.0)) }
-    ensures fits { IfOk result (λ x. depth + x.1 ≤ MOST_NESTING) }
-    ensures shorter { IfOk result (λ x. length x.2.now < length rest.now) }
+    level: u32,
+) -> Result<(LetPattern, &'a [Token]), ReadError>
+    ensures gives { Gives (λ x. (let_pattern_view x.0, x.1.now)) result (spec.let_parts_with MOST_PATTERN_LEVELS (spec.read_pattern MOST_PATTERN_LEVELS) level from.now name rest.now) }
+    ensures shorter { IfOk result (λ x. length x.1.now < length rest.now) }
 {
-    if depth >= MOST_NESTING {
+    if level >= MOST_PATTERN_LEVELS {
         return Err(ReadError::Depth(rest.len()));
     }
-    let (parts, height, more) = let_patterns_of(alloc, rest, depth + 1)?;
+    let (parts, more) = let_patterns_of(alloc, rest, level + 1)?;
     if !is_mark(Mark::CloseParen, more) {
         return Err(ReadError::Syntax(more.len()));
     }
     let span = till(here(from), here(more));
-    Ok((let_case(span, name, parts), height + 1, after(more)))
+    Ok((let_case(span, name, parts), after(more)))
 }
 
 /// A case, the dot of which is the next token.
@@ -77,14 +71,11 @@ fn let_parts_of<'a>(
 fn let_case_of(
     alloc: Global,
     rest: &[Token],
-    depth: u32,
-) -> Result<(LetPattern, u32, &[Token]), ReadError>
-    requires limit { depth ≤ MOST_NESTING }
+    level: u32,
+) -> Result<(LetPattern, &[Token]), ReadError>
     requires some { 0 < length rest.now }
-    ensures gives { Gives (λ x. (let_pattern_view x.0, x.2.now)) result (spec.let_case_with MOST_NESTING (spec.read_pattern MOST_NESTING) depth rest.now) }
-    ensures height { IfOk result (λ x. x.1 ≡ nest_let_pat (let_pattern_view x.0)) }
-    ensures fits { IfOk result (λ x. depth + x.1 ≤ MOST_NESTING) }
-    ensures shorter { IfOk result (λ x. length x.2.now < length rest.now) }
+    ensures gives { Gives (λ x. (let_pattern_view x.0, x.1.now)) result (spec.let_case_with MOST_PATTERN_LEVELS (spec.read_pattern MOST_PATTERN_LEVELS) level rest.now) }
+    ensures shorter { IfOk result (λ x. length x.1.now < length rest.now) }
 {
     let more = after(rest);
     let Some(name) = name_at(alloc, more)? else {
@@ -92,10 +83,10 @@ fn let_case_of(
     };
     let last = after(more);
     if is_mark(Mark::OpenParen, last) {
-        return let_parts_of(alloc, after(last), rest, name, depth);
+        return let_parts_of(alloc, after(last), rest, name, level);
     }
     let span = till(here(rest), here(more));
-    Ok((LetPattern::Case(span, name, Items::new(alloc)), 0, last))
+    Ok((LetPattern::Case(span, name, Items::new(alloc)), last))
 }
 
 #[cycle(let_patterns)]
@@ -103,25 +94,21 @@ fn let_case_of(
 fn let_pattern_of(
     alloc: Global,
     rest: &[Token],
-    depth: u32,
-) -> Result<(LetPattern, u32, &[Token]), ReadError>
-    requires limit { depth ≤ MOST_NESTING }
-    ensures gives { Gives (λ x. (let_pattern_view x.0, x.2.now)) result (spec.let_pattern_with MOST_NESTING (spec.read_pattern MOST_NESTING) depth rest.now) }
-    ensures height { IfOk result (λ x. x.1 ≡ nest_let_pat (let_pattern_view x.0)) }
-    ensures fits { IfOk result (λ x. depth + x.1 ≤ MOST_NESTING) }
-    ensures shorter { IfOk result (λ x. length x.2.now < length rest.now) }
+    level: u32,
+) -> Result<(LetPattern, &[Token]), ReadError>
+    ensures gives { Gives (λ x. (let_pattern_view x.0, x.1.now)) result (spec.let_pattern_with MOST_PATTERN_LEVELS (spec.read_pattern MOST_PATTERN_LEVELS) level rest.now) }
+    ensures shorter { IfOk result (λ x. length x.1.now < length rest.now) }
 {
     if is_mark(Mark::Underscore, rest) {
-        return Ok((LetPattern::Any(here(rest)), 0, after(rest)));
+        return Ok((LetPattern::Any(here(rest)), after(rest)));
     }
     if is_mark(Mark::Dot, rest) {
-        return let_case_of(alloc, rest, depth);
+        return let_case_of(alloc, rest, level);
     }
     if let Some(name) = name_at(alloc, rest)? {
-        return Ok((LetPattern::Bind(name), 0, after(rest)));
+        return Ok((LetPattern::Bind(name), after(rest)));
     }
-    let (literal, more) = let_literal_of(rest)?;
-    Ok((literal, 0, more))
+    let_literal_of(rest)
 }
 
 /// Patterns with commas between them.
@@ -129,24 +116,18 @@ fn let_pattern_of(
 fn let_pattern_list(
     alloc: Global,
     rest: &[Token],
-    depth: u32,
-) -> Result<(Items<LetPattern>, u32, &[Token]), ReadError>
-    requires limit { depth ≤ MOST_NESTING }
-    ensures gives { Gives (λ x. (map let_pattern_view x.0, x.2.now)) result (spec.let_patterns_with MOST_NESTING (spec.read_pattern MOST_NESTING) [] depth rest.now) }
-    ensures height { IfOk result (λ x. x.1 ≡ nest_let_pats (let_pats_of (map let_pattern_view x.0))) }
-    ensures some { IfOk result (λ x. 0 < length x.0) }
-    ensures fits { IfOk result (λ x. depth + x.1 ≤ MOST_NESTING) }
-    ensures shorter { IfOk result (λ x. length x.2.now < length rest.now) }
+    level: u32,
+) -> Result<(Items<LetPattern>, &[Token]), ReadError>
+    ensures gives { Gives (λ x. (map let_pattern_view x.0, x.1.now)) result (spec.let_patterns_with MOST_PATTERN_LEVELS (spec.read_pattern MOST_PATTERN_LEVELS) [] level rest.now) }
+    ensures shorter { IfOk result (λ x. length x.1.now < length rest.now) }
 {
     let mut found = Items::new(alloc);
-    let mut height = 0;
     let mut left = rest;
     loop {
-        let (pattern, more_height, more) = let_pattern_of(alloc, left, depth)?;
+        let (pattern, more) = let_pattern_of(alloc, left, level)?;
         found.push(pattern)?;
-        height = larger(height, more_height);
         if !is_mark(Mark::Comma, more) {
-            return Ok((found, height, more));
+            return Ok((found, more));
         }
         left = after(more);
     }
@@ -157,16 +138,12 @@ fn let_pattern_list(
 fn let_patterns_of(
     alloc: Global,
     rest: &[Token],
-    depth: u32,
-) -> Result<(Items<LetPattern>, u32, &[Token]), ReadError>
-    requires limit { depth ≤ MOST_NESTING }
-    ensures gives { Gives (λ x. (map let_pattern_view x.0, x.2.now)) result (spec.read_pattern MOST_NESTING (spec.PatternGoal.let_patterns_on []) depth rest.now) }
-    ensures height { IfOk result (λ x. x.1 ≡ nest_let_pats (let_pats_of (map let_pattern_view x.0))) }
-    ensures some { IfOk result (λ x. 0 < length x.0) }
-    ensures fits { IfOk result (λ x. depth + x.1 ≤ MOST_NESTING) }
-    ensures shorter { IfOk result (λ x. length x.2.now < length rest.now) }
+    level: u32,
+) -> Result<(Items<LetPattern>, &[Token]), ReadError>
+    ensures gives { Gives (λ x. (map let_pattern_view x.0, x.1.now)) result (spec.read_pattern MOST_PATTERN_LEVELS (spec.PatternGoal.let_patterns_on []) level rest.now) }
+    ensures shorter { IfOk result (λ x. length x.1.now < length rest.now) }
 {
-    let_pattern_list(alloc, rest, depth)
+    let_pattern_list(alloc, rest, level)
 }
 
 /// The pattern after a `let`, and what follows.
@@ -174,13 +151,10 @@ fn let_patterns_of(
 pub(crate) fn let_pattern_goal(
     alloc: Global,
     rest: &[Token],
-    depth: u32,
-) -> Result<(LetPattern, u32, &[Token]), ReadError>
-    requires limit { depth ≤ MOST_NESTING }
-    ensures gives { Gives (λ x. (let_pattern_view x.0, x.2.now)) result (spec.read_pattern MOST_NESTING spec.PatternGoal.let_pattern depth rest.now) }
-    ensures height { IfOk result (λ x. x.1 ≡ nest_let_pat (let_pattern_view x.0)) }
-    ensures fits { IfOk result (λ x. depth + x.1 ≤ MOST_NESTING) }
-    ensures shorter { IfOk result (λ x. length x.2.now < length rest.now) }
+    level: u32,
+) -> Result<(LetPattern, &[Token]), ReadError>
+    ensures gives { Gives (λ x. (let_pattern_view x.0, x.1.now)) result (spec.read_pattern MOST_PATTERN_LEVELS spec.PatternGoal.let_pattern level rest.now) }
+    ensures shorter { IfOk result (λ x. length x.1.now < length rest.now) }
 {
-    let_pattern_of(alloc, rest, depth)
+    let_pattern_of(alloc, rest, level)
 }

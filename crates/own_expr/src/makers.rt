@@ -41,12 +41,10 @@ pub(crate) fn choice(
     ensures { IfOk result (λ e. expr_view e ≡ source.choice (till (exp_span (expr_view condition)) (exp_span (expr_view second))) (expr_view condition) (expr_view first) (expr_view second)) }
 {
     let span = next::till(expr_span(&condition), expr_span(&second));
-    Ok(Expr::Choice(
-        span,
-        Boxed::new(alloc, condition)?,
-        Boxed::new(alloc, first)?,
-        Boxed::new(alloc, second)?,
-    ))
+    let condition = Boxed::new(alloc, condition);
+    let first = Boxed::new(alloc, first);
+    let second = Boxed::new(alloc, second);
+    Ok(Expr::Choice(span, condition?, first?, second?))
 }
 
 /// A member, whose name ends at `end`.

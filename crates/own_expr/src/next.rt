@@ -6,7 +6,7 @@ ghost use Rattle.own_grammar.specs.Reading as reading;
 ghost use Rattle.own_grammar.specs.Tests as spec;
 ghost use Rattle.own_tree.specs.View.{expr_view};
 
-use own_tree::tree::{Expr, Keyword, Name, Root};
+use own_tree::tree::{ClosureName, Expr, Keyword, Name, Root};
 use own_tree::{Kind, Mark, Row, Span, Token, Word};
 use std::alloc::{AllocError, Global};
 
@@ -176,6 +176,35 @@ pub(crate) fn binder_at(alloc: Global, rest: &[Token]) -> Result<Option<Option<N
             Ok(Some(Some(Name { text, span })))
         }
         Some(Kind::Mark(mark)) => Ok(mark_binder(*mark)),
+        _ => Ok(None),
+    }
+}
+
+fn closure_mark(span: Span, mark: Mark) -> Option<ClosureName>
+    ensures { result ≡ spec.closure_mark span mark }
+{
+    match mark {
+        Mark::Underscore => Some(ClosureName::Any(span)),
+        _ => None,
+    }
+}
+
+/// A name of a closure: NAME or `_`.
+#[tactic(auto, unfolding(own_grammar::specs::Tests::closure_name_at))]
+pub(crate) fn closure_name_at(
+    alloc: Global,
+    rest: &[Token],
+) -> Result<Option<ClosureName>, AllocError>
+    ensures value { IfOk result (λ name. name ≡ spec.closure_name_at rest.now) }
+    ensures some { IfOk result (λ name. IfSome name (λ _. 0 < length rest.now)) }
+{
+    match kind_at(rest) {
+        Some(Kind::Name(text)) => {
+            let text = Row::from_slice(alloc, text.as_slice())?;
+            let span = here(rest);
+            Ok(Some(ClosureName::Bind(Name { text, span })))
+        }
+        Some(Kind::Mark(mark)) => Ok(closure_mark(here(rest), *mark)),
         _ => Ok(None),
     }
 }

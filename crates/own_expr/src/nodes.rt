@@ -127,13 +127,9 @@ pub(crate) fn binary(
     ensures { IfOk result (λ e. expr_view e ≡ source.binary (till (exp_span (expr_view left)) (exp_span (expr_view right))) operator at (expr_view left) (expr_view right)) }
 {
     let span = next::till(expr_span(&left), expr_span(&right));
-    Ok(Expr::Binary(
-        span,
-        operator,
-        at,
-        Boxed::new(alloc, left)?,
-        Boxed::new(alloc, right)?,
-    ))
+    let left = Boxed::new(alloc, left);
+    let right = Boxed::new(alloc, right);
+    Ok(Expr::Binary(span, operator, at, left?, right?))
 }
 
 /// What an assignment stores to, where the expression is a path. Otherwise the expression itself.

@@ -8,10 +8,10 @@ ghost use Rattle.own_tree.specs.View.{expr_view, passed_view, stmt_view};
 
 use crate::fault::ReadError;
 use crate::lines::annotates;
-use crate::next::{after, binder_at, here, is_mark, is_word, name_at, root_at, till};
+use crate::next::{after, closure_name_at, here, is_mark, is_word, name_at, root_at, till};
 use crate::nodes::names_end;
 use own_tree::limits::MOST_NESTING;
-use own_tree::tree::{Expr, Name, Passed, Path, Root, Stmt};
+use own_tree::tree::{ClosureName, Expr, Name, Passed, Path, Root, Stmt};
 use own_tree::{Mark, Row, Token, Word};
 use std::alloc::{AllocError, Global};
 
@@ -168,14 +168,14 @@ pub(crate) fn discard_of(rest: &[Token], depth: u32) -> Result<(Stmt, u32, &[Tok
 fn names_at(
     alloc: Global,
     rest: &[Token],
-) -> Result<Option<(Row<Option<Name>>, &[Token])>, AllocError>
+) -> Result<Option<(Row<ClosureName>, &[Token])>, AllocError>
     ensures value { IfOk result (λ names. option_map (λ x. (x.0, x.1.now)) names ≡ tests.names_at rest.now) }
     ensures within { IfOk result (λ names. IfSome names (λ x. length x.1.now ≤ length rest.now)) }
 {
     let mut found = Row::new(alloc);
     let mut left = rest;
     loop {
-        let Some(name) = binder_at(alloc, left)? else {
+        let Some(name) = closure_name_at(alloc, left)? else {
             return Ok(None);
         };
         found.push(name)?;
@@ -195,7 +195,7 @@ fn names_at(
 pub(crate) fn closure_head(
     alloc: Global,
     rest: &[Token],
-) -> Result<(Row<Option<Name>>, &[Token]), AllocError>
+) -> Result<(Row<ClosureName>, &[Token]), AllocError>
     ensures value { IfOk result (λ x. (x.0, x.1.now) ≡ tests.closure_head rest.now) }
     ensures within { IfOk result (λ x. length x.1.now ≤ length rest.now) }
 {

@@ -1,7 +1,6 @@
 //! The patterns of a clause.
-ghost use Rattle.std.specs.Prelude.{◌≡◌, ◌≤◌, ◌<◌, ◌+◌, length, map, [], IfOk};
+ghost use Rattle.std.specs.Prelude.{◌≡◌, ◌<◌, ◌+◌, length, map, [], IfOk};
 ghost use Rattle.own_expr.specs.Gives.{Gives};
-ghost use Rattle.own_grammar.specs.Nesting.{nest_pat, nest_pats};
 ghost use Rattle.own_grammar.specs.Reading as spec;
 ghost use Rattle.own_tree.specs.Source as source;
 ghost use Rattle.own_tree.specs.View.{pattern_view, pats_of};
@@ -9,9 +8,9 @@ ghost use Rattle.own_tree.specs.View.{pattern_view, pats_of};
 use crate::fault::ReadError;
 use crate::let_patterns::let_pattern_goal;
 use crate::next::{after, here, is_mark, is_word, name_at, number_at, till, truth_at};
-use crate::nodes::{larger, let_pattern_span};
+use crate::nodes::let_pattern_span;
 use crate::operators::negative_at;
-use own_tree::limits::MOST_NESTING;
+use own_grammar::limits::MOST_PATTERN_LEVELS;
 use own_tree::tree::{Name, Pattern};
 use own_tree::{Mark, Row, Span, Token, Word};
 use sqlite_items::Items;
@@ -21,7 +20,6 @@ use std::alloc::Global;
 #[tactic(auto, unfolding(own_grammar::specs::Reading::literal_pattern_with))]
 fn literal_pattern_of(rest: &[Token]) -> Result<(Pattern, &[Token]), ReadError>
     ensures gives { Gives (λ x. (pattern_view x.0, x.1.now)) result (spec.literal_pattern_with rest.now) }
-    ensures height { IfOk result (λ x. nest_pat (pattern_view x.0) ≡ 0) }
     ensures shorter { IfOk result (λ x. length x.1.now < length rest.now) }
 {
     if let Some(truth) = truth_at(rest) {
@@ -40,25 +38,22 @@ fn literal_pattern_of(rest: &[Token]) -> Result<(Pattern, &[Token]), ReadError>
 
 /// `let`, and a name or a case in which names bind.
 #[tactic(auto, unfolding(own_grammar::specs::Reading::bind_with))]
-fn bind_of(alloc: Global, rest: &[Token], depth: u32) -> Result<(Pattern, u32, &[Token]), ReadError>
-    requires limit { depth ≤ MOST_NESTING }
+fn bind_of(alloc: Global, rest: &[Token], level: u32) -> Result<(Pattern, &[Token]), ReadError>
     requires some { 0 < length rest.now }
-    ensures gives { Gives (λ x. (pattern_view x.0, x.2.now)) result (spec.bind_with (spec.read_pattern MOST_NESTING) depth rest.now) }
-    ensures height { IfOk result (λ x. x.1 ≡ nest_pat (pattern_view x.0)) }
-    ensures fits { IfOk result (λ x. depth + x.1 ≤ MOST_NESTING) }
-    ensures shorter { IfOk result (λ x. length x.2.now < length rest.now) }
+    ensures gives { Gives (λ x. (pattern_view x.0, x.1.now)) result (spec.bind_with (spec.read_pattern MOST_PATTERN_LEVELS) level rest.now) }
+    ensures shorter { IfOk result (λ x. length x.1.now < length rest.now) }
 {
     let more = after(rest);
     if let Some(name) = name_at(alloc, more)? {
         let span = till(here(rest), here(more));
-        return Ok((Pattern::Bind(span, name), 0, after(more)));
+        return Ok((Pattern::Bind(span, name), after(more)));
     }
     if !is_mark(Mark::Dot, more) {
         return Err(ReadError::Syntax(more.len()));
     }
-    let (pattern, height, last) = let_pattern_goal(alloc, more, depth)?;
+    let (pattern, last) = let_pattern_goal(alloc, more, level)?;
     let span = till(here(rest), let_pattern_span(&pattern));
-    Ok((Pattern::BindCase(span, pattern), height, last))
+    Ok((Pattern::BindCase(span, pattern), last))
 }
 
 /// A case with its parts.
@@ -76,35 +71,29 @@ fn parts_of<'a>(
     rest: &'a [Token],
     from: &[Token],
     name: Name,
-    depth: u32,
-) -> Result<(Pattern, u32, &'a [Token]), ReadError>
-    requires limit { depth ≤ MOST_NESTING }
-    ensures gives { Gives (λ x. (pattern_view x.0, x.2.now)) result (spec.parts_with MOST_NESTING (spec.read_pattern MOST_NESTING) depth from.now name rest.now) }
-    ensures height { IfOk result (λ x. x.1 ≡ nest_pat (pattern_view x.0)) }
-    ensures fits { IfOk result (λ x. depth + x.1 ≤ MOST_NESTING) }
-    ensures shorter { IfOk result (λ x. length x.2.now < length rest.now) }
+    level: u32,
+) -> Result<(Pattern, &'a [Token]), ReadError>
+    ensures gives { Gives (λ x. (pattern_view x.0, x.1.now)) result (spec.parts_with MOST_PATTERN_LEVELS (spec.read_pattern MOST_PATTERN_LEVELS) level from.now name rest.now) }
+    ensures shorter { IfOk result (λ x. length x.1.now < length rest.now) }
 {
-    if depth >= MOST_NESTING {
+    if level >= MOST_PATTERN_LEVELS {
         return Err(ReadError::Depth(rest.len()));
     }
-    let (parts, height, more) = patterns_of(alloc, rest, depth + 1)?;
+    let (parts, more) = patterns_of(alloc, rest, level + 1)?;
     if !is_mark(Mark::CloseParen, more) {
         return Err(ReadError::Syntax(more.len()));
     }
     let span = till(here(from), here(more));
-    Ok((on_case(span, name, parts), height + 1, after(more)))
+    Ok((on_case(span, name, parts), after(more)))
 }
 
 /// A case, the dot of which is the next token.
 #[cycle(patterns)]
 #[tactic(auto, unfolding(own_grammar::specs::Reading::case_with))]
-fn case_of(alloc: Global, rest: &[Token], depth: u32) -> Result<(Pattern, u32, &[Token]), ReadError>
-    requires limit { depth ≤ MOST_NESTING }
+fn case_of(alloc: Global, rest: &[Token], level: u32) -> Result<(Pattern, &[Token]), ReadError>
     requires some { 0 < length rest.now }
-    ensures gives { Gives (λ x. (pattern_view x.0, x.2.now)) result (spec.case_with MOST_NESTING (spec.read_pattern MOST_NESTING) depth rest.now) }
-    ensures height { IfOk result (λ x. x.1 ≡ nest_pat (pattern_view x.0)) }
-    ensures fits { IfOk result (λ x. depth + x.1 ≤ MOST_NESTING) }
-    ensures shorter { IfOk result (λ x. length x.2.now < length rest.now) }
+    ensures gives { Gives (λ x. (pattern_view x.0, x.1.now)) result (spec.case_with MOST_PATTERN_LEVELS (spec.read_pattern MOST_PATTERN_LEVELS) level rest.now) }
+    ensures shorter { IfOk result (λ x. length x.1.now < length rest.now) }
 {
     let more = after(rest);
     let Some(name) = name_at(alloc, more)? else {
@@ -112,36 +101,28 @@ fn case_of(alloc: Global, rest: &[Token], depth: u32) -> Result<(Pattern, u32, &
     };
     let last = after(more);
     if is_mark(Mark::OpenParen, last) {
-        return parts_of(alloc, after(last), rest, name, depth);
+        return parts_of(alloc, after(last), rest, name, level);
     }
     let span = till(here(rest), here(more));
-    Ok((Pattern::Case(span, name, Items::new(alloc)), 0, last))
+    Ok((Pattern::Case(span, name, Items::new(alloc)), last))
 }
 
 #[cycle(patterns)]
 #[tactic(auto, unfolding(own_grammar::specs::Reading::pattern_with))]
-fn pattern_of(
-    alloc: Global,
-    rest: &[Token],
-    depth: u32,
-) -> Result<(Pattern, u32, &[Token]), ReadError>
-    requires limit { depth ≤ MOST_NESTING }
-    ensures gives { Gives (λ x. (pattern_view x.0, x.2.now)) result (spec.pattern_with MOST_NESTING (spec.read_pattern MOST_NESTING) depth rest.now) }
-    ensures height { IfOk result (λ x. x.1 ≡ nest_pat (pattern_view x.0)) }
-    ensures fits { IfOk result (λ x. depth + x.1 ≤ MOST_NESTING) }
-    ensures shorter { IfOk result (λ x. length x.2.now < length rest.now) }
+fn pattern_of(alloc: Global, rest: &[Token], level: u32) -> Result<(Pattern, &[Token]), ReadError>
+    ensures gives { Gives (λ x. (pattern_view x.0, x.1.now)) result (spec.pattern_with MOST_PATTERN_LEVELS (spec.read_pattern MOST_PATTERN_LEVELS) level rest.now) }
+    ensures shorter { IfOk result (λ x. length x.1.now < length rest.now) }
 {
     if is_mark(Mark::Underscore, rest) {
-        return Ok((Pattern::Any(here(rest)), 0, after(rest)));
+        return Ok((Pattern::Any(here(rest)), after(rest)));
     }
     if is_word(Word::Let, rest) {
-        return bind_of(alloc, rest, depth);
+        return bind_of(alloc, rest, level);
     }
     if is_mark(Mark::Dot, rest) {
-        return case_of(alloc, rest, depth);
+        return case_of(alloc, rest, level);
     }
-    let (literal, more) = literal_pattern_of(rest)?;
-    Ok((literal, 0, more))
+    literal_pattern_of(rest)
 }
 
 /// Patterns with commas between them.
@@ -149,44 +130,34 @@ fn pattern_of(
 fn pattern_list(
     alloc: Global,
     rest: &[Token],
-    depth: u32,
-) -> Result<(Row<Pattern>, u32, &[Token]), ReadError>
-    requires limit { depth ≤ MOST_NESTING }
-    ensures gives { Gives (λ x. (map pattern_view x.0, x.2.now)) result (spec.patterns_with MOST_NESTING (spec.read_pattern MOST_NESTING) [] depth rest.now) }
-    ensures height { IfOk result (λ x. x.1 ≡ nest_pats (pats_of (map pattern_view x.0))) }
-    ensures some { IfOk result (λ x. 0 < length x.0) }
-    ensures fits { IfOk result (λ x. depth + x.1 ≤ MOST_NESTING) }
-    ensures shorter { IfOk result (λ x. length x.2.now < length rest.now) }
+    level: u32,
+) -> Result<(Row<Pattern>, &[Token]), ReadError>
+    ensures gives { Gives (λ x. (map pattern_view x.0, x.1.now)) result (spec.patterns_with MOST_PATTERN_LEVELS (spec.read_pattern MOST_PATTERN_LEVELS) [] level rest.now) }
+    ensures shorter { IfOk result (λ x. length x.1.now < length rest.now) }
 {
     let mut found = Row::new(alloc);
-    let mut height = 0;
     let mut left = rest;
     loop {
-        let (pattern, more_height, more) = pattern_of(alloc, left, depth)?;
+        let (pattern, more) = pattern_of(alloc, left, level)?;
         found.push(pattern)?;
-        height = larger(height, more_height);
         if !is_mark(Mark::Comma, more) {
-            return Ok((found, height, more));
+            return Ok((found, more));
         }
         left = after(more);
     }
 }
 
-/// The patterns of a clause or of a case, with commas between them, and what follows. A pattern inside
-/// another one is a level of nesting.
+/// The patterns of a clause or of a case, with commas between them, and what follows. Each of them is
+/// at `level`: those of a clause are at level 1.
 #[cycle(patterns)]
 #[tactic(auto, using(crate::proofs::PatternList::list_is))]
 pub(crate) fn patterns_of(
     alloc: Global,
     rest: &[Token],
-    depth: u32,
-) -> Result<(Row<Pattern>, u32, &[Token]), ReadError>
-    requires limit { depth ≤ MOST_NESTING }
-    ensures gives { Gives (λ x. (map pattern_view x.0, x.2.now)) result (spec.read_pattern MOST_NESTING (spec.PatternGoal.patterns_on []) depth rest.now) }
-    ensures height { IfOk result (λ x. x.1 ≡ nest_pats (pats_of (map pattern_view x.0))) }
-    ensures some { IfOk result (λ x. 0 < length x.0) }
-    ensures fits { IfOk result (λ x. depth + x.1 ≤ MOST_NESTING) }
-    ensures shorter { IfOk result (λ x. length x.2.now < length rest.now) }
+    level: u32,
+) -> Result<(Row<Pattern>, &[Token]), ReadError>
+    ensures gives { Gives (λ x. (map pattern_view x.0, x.1.now)) result (spec.read_pattern MOST_PATTERN_LEVELS (spec.PatternGoal.patterns_on []) level rest.now) }
+    ensures shorter { IfOk result (λ x. length x.1.now < length rest.now) }
 {
-    pattern_list(alloc, rest, depth)
+    pattern_list(alloc, rest, level)
 }

@@ -9,6 +9,7 @@ use Rattle.own_tree.specs.declared.token.Kind.TheVariants as kind
 use Rattle.own_tree.specs.declared.token.Mark.{Mark}
 use Rattle.own_tree.specs.declared.token.Mark.TheVariants as mark
 use Rattle.own_tree.specs.declared.token.Word.TheVariants as word
+use Rattle.own_tree.specs.declared.tree.ClosureName.{ClosureName}
 use Rattle.own_tree.specs.declared.tree.Name.{Name}
 use Rattle.own_tree.specs.declared.tree.Path.{Path}
 use Rattle.own_tree.specs.declared.tree.Keyword.{Keyword}
@@ -25,10 +26,12 @@ use Rattle.own_grammar.specs.declared.Context.{Context}
 use Rattle.own_grammar.specs.declared.Context.TheVariants.{Plain, Condition, Inside}
 use Rattle.own_grammar.specs.Tests.{Toks, after, here, till, kind_at, is_mark, is_word, truth_at, root_at, operator_at, prefix_in, unary_at, opens, closes, word_is, mark_is, binder_at, keyword_at, assigns}
 use Rattle.own_grammar.specs.Nesting.{exp_span, clo_span, level, chains, level_of, is_post, is_path, is_call, nest, nest_given, nest_args, nest_clo, nest_stm, nest_stms, nest_when, nest_clauses, nest_blk, stms_end, is_if, is_return}
+use Rattle.own_grammar.specs.Levels.{levels_args, levels_blk, levels_clauses, levels_clo, levels_exp, levels_given, levels_stm, levels_stms, levels_when}
 use Rattle.own_grammar.specs.Spells.{IsLeft, Labels, SpellsE, SpellsG, SpellsA, SpellsK, SpellsS, SpellsL, SpellsN, SpellsH, SpellsC, SpellsB, SpellsPats, Sep, Typed, Ignored}
 use Rattle.own_grammar.specs.Reading.{◌>>=◌, on_some, Goal, expression, operand, operators_on, calls_on, arguments_on, Reader, parenthesized_with, implicit_with, literal_at, primary_with, post_with, prefix_with, consume_with, pre_with, level_with, next_with, operator_with, operators_with, branches_with, choice_with, expression_with, closure_with, address_with, given_with, argument_with, arguments_with, all_arguments_with, called_with, call_with, closing_with, member_with, calls_with, step, statement, statements_on, clause_on, clauses_on, body, typed_with, bound, bound_with, let_with, ignore_with, discard_with, else_with, if_with, while_with, repeat_with, upper_with, lower_with, for_with, switch_with, return_with, assign_with, evaluate_with, simple_with, statement_with, separated_with, statements_with, ends_clause, clause_statements_with, where_with, head_with, clause_with, clauses_with, block_with}
 use Rattle.own_grammar.proofs.Facts.{number_kind, text_kind, name_kind, truth_kind, truth_word, root_kind, root_kind_of, at_mark, at_word, opens_kind, closes_kind, assigns_kind, label_name, unary_kind, negative_kind, no_negative, no_unary, negative_no_unary}
 use Rattle.own_grammar.proofs.Edges.{sep_is, Breaks, After, after_sep, no_keyword, at_keyword, not_annotates, name_binder, mark_no_binder, not_clause, start_no_clause, keyword_no_clause, no_brace, stops_range, stops_assign, stops_condition, can_start, starts_at, starts_truth, starts_root, starts_prefix, no_word, no_mark, clash, level_in, Stops, stops_at, stops_brace, stops_question, stops_operator, not_opens, not_closes, weaker}
+use Rattle.own_grammar.proofs.Within.{over}
 use Rattle.own_grammar.proofs.Steps.{bind_is, le_tells}
 use Rattle.own_grammar.proofs.Lists.{args_in, args_list, stms_in, stms_list, clauses_in, clauses_list, pats_in, pats_list}
 use Rattle.own_grammar.proofs.Paths.{path_from_is, path_is, typed_is}
@@ -89,7 +92,7 @@ unfolding truth_word
 truth_facts true = refl
 truth_facts false = refl
 
-module _ (most : ℕ) (R : Reader) (opened : (g : Goal) (d : ℕ) (ts : Toks) → R g d ts ≡ step most R g d ts) where
+module _ (most levels : ℕ) (R : Reader) (opened : (g : Goal) (d : ℕ) (ts : Toks) → R g d ts ≡ step most levels R g d ts) where
   -- ---- where the loops stop
 
   stop_by : (j : ℕ) (context : Context) (e : Exp) (d : ℕ) (ts : Toks) (x : Option BinaryOperator) → suc j < level_in x → on_some x (operator_with most R j context e d ts) (Ok (e, ts)) ≡ Ok (e, ts)
@@ -129,7 +132,7 @@ module _ (most : ℕ) (R : Reader) (opened : (g : Goal) (d : ℕ) (ts : Toks) �
     pub whole : tight ≡ false → 5 < level_of e → Stops 6 context to → expression_with most R context d from ≡ Ok (e, to)
 
   abbrev Good : Exp → Type 0
-  Good e = (tight : Bool) (context : Context) (d : ℕ) (from to : Toks) → SpellsE e tight context from to → d + nest e ≤ most → Own tight context d e from to
+  Good e = (tight : Bool) (context : Context) (d : ℕ) (from to : Toks) → SpellsE e tight context from to → over most levels d (nest e) (levels_exp e) ≤ 0 → Own tight context d e from to
 
   -- at its own level
   at_level : (j : ℕ) (e : Exp) (context : Context) (d : ℕ) (from to : Toks) → j < 5 → Own false context d e from to → level_of e ≡ suc j → Stops (suc j) context to → level_with most R (suc j) context d from ≡ Ok (e, to)
@@ -170,11 +173,11 @@ module _ (most : ℕ) (R : Reader) (opened : (g : Goal) (d : ℕ) (ts : Toks) �
     | inr high ↦ own.whole refl high st
   ]
 
-  pub expression_at : (e : Exp) (context : Context) (d : ℕ) (from to : Toks) → Good e → SpellsE e false context from to → Stops 6 context to → d + nest e ≤ most → expression_with most R context d from ≡ Ok (e, to)
+  pub expression_at : (e : Exp) (context : Context) (d : ℕ) (from to : Toks) → Good e → SpellsE e false context from to → Stops 6 context to → over most levels d (nest e) (levels_exp e) ≤ 0 → expression_with most R context d from ≡ Ok (e, to)
   expression_at e context d from to good sp st fit = expression_is e context d from to (good false context d from to sp fit) st
 
   -- after a token
-  pub expression_goal : (e : Exp) (context : Context) (d : ℕ) (from to : Toks) → Good e → SpellsE e false context from to → Stops 6 context to → d + nest e ≤ most → R (expression context) d from ≡ Ok (e, to)
+  pub expression_goal : (e : Exp) (context : Context) (d : ℕ) (from to : Toks) → Good e → SpellsE e false context from to → Stops 6 context to → over most levels d (nest e) (levels_exp e) ≤ 0 → R (expression context) d from ≡ Ok (e, to)
   unfolding step
   expression_goal e context d from to good sp st fit = opened (expression context) d from ∙ expression_at e context d from to good sp st fit
 
@@ -315,7 +318,7 @@ module _ (most : ℕ) (R : Reader) (opened : (g : Goal) (d : ℕ) (ts : Toks) �
   -- ---- closures and arguments
 
   abbrev GoodK : Clo → Type 0
-  GoodK c = (d : ℕ) (from to : Toks) → SpellsK c from to → d + nest_clo c ≤ most → closure_with most R d from ≡ Ok (c, to)
+  GoodK c = (d : ℕ) (from to : Toks) → SpellsK c from to → over most levels d (nest_clo c) (levels_clo c) ≤ 0 → closure_with most R d from ≡ Ok (c, to)
 
   closure_begins : (c : Clo) (from to : Toks) → SpellsK c from to → kind_at from ≡ Some (kind.Mark mark.OpenBrace)
   closure_begins (closure s ns ss) from to sp = sp.0
@@ -325,7 +328,7 @@ module _ (most : ℕ) (R : Reader) (opened : (g : Goal) (d : ℕ) (ts : Toks) �
     pub begins : is_mark mark.CloseParen from ≡ false
 
   abbrev GoodG : Given → Type 0
-  GoodG g = (d : ℕ) (from to : Toks) → SpellsG g from to → Stops 6 Inside to → d + nest_given g ≤ most → Gives d g from to
+  GoodG g = (d : ℕ) (from to : Toks) → SpellsG g from to → Stops 6 Inside to → over most levels d (nest_given g) (levels_given g) ≤ 0 → Gives d g from to
 
   gives_value : (e : Exp) → Good e → GoodG (value e)
   unfolding given_with
@@ -354,7 +357,7 @@ module _ (most : ℕ) (R : Reader) (opened : (g : Goal) (d : ℕ) (ts : Toks) �
   argument_is None g d from start to (is, at_) r = rw (is, ← at_, r) refl
 
   abbrev More : Args → Type 0
-  More es = (l : Option Name) (g : Given) → GoodG g → (xs : List Arg) (d : ℕ) (from to : Toks) → SpellsA (arg l g es) from to → kind_at to ≡ Some (kind.Mark mark.CloseParen) → d + suc (nest_args (arg l g es)) ≤ most
+  More es = (l : Option Name) (g : Given) → GoodG g → (xs : List Arg) (d : ℕ) (from to : Toks) → SpellsA (arg l g es) from to → kind_at to ≡ Some (kind.Mark mark.CloseParen) → over most levels d (suc (nest_args (arg l g es))) (levels_args (arg l g es)) ≤ 0
       → arguments_with most R xs d from ≡ Ok (xs ++ args_in (arg l g es), to)
 
   more_none : More no_args
@@ -376,7 +379,7 @@ module _ (most : ℕ) (R : Reader) (opened : (g : Goal) (d : ℕ) (ts : Toks) �
   first_argument None from start (is, at_) st = rw at_ at st
 
   abbrev GoodA : Args → Type 0
-  GoodA es = (d : ℕ) (from to : Toks) → SpellsA es from to → kind_at to ≡ Some (kind.Mark mark.CloseParen) → d + suc (nest_args es) ≤ most → all_arguments_with most R d from ≡ Ok (args_in es, to)
+  GoodA es = (d : ℕ) (from to : Toks) → SpellsA es from to → kind_at to ≡ Some (kind.Mark mark.CloseParen) → over most levels d (suc (nest_args es)) (levels_args es) ≤ 0 → all_arguments_with most R d from ≡ Ok (args_in es, to)
 
   args_none : GoodA no_args
   unfolding all_arguments_with args_in
@@ -386,7 +389,7 @@ module _ (most : ℕ) (R : Reader) (opened : (g : Goal) (d : ℕ) (ts : Toks) �
   unfolding all_arguments_with
   args_more l g es good more d from to sp close fit = rw (starts_arg es sp close fit) (more l g good [] d from to sp close fit)
     where
-      starts_arg : (fs : Args) → SpellsA (arg l g fs) from to → kind_at to ≡ Some (kind.Mark mark.CloseParen) → d + suc (nest_args (arg l g fs)) ≤ most → is_mark mark.CloseParen from ≡ false
+      starts_arg : (fs : Args) → SpellsA (arg l g fs) from to → kind_at to ≡ Some (kind.Mark mark.CloseParen) → over most levels d (suc (nest_args (arg l g fs))) (levels_args (arg l g fs)) ≤ 0 → is_mark mark.CloseParen from ≡ false
       starts_arg no_args (start, lab, one) end lt = first_argument l from start lab (good (d + 1) start to one (stops_at 6 Inside to _ (omega arith) end refl) (omega (arith, lt))).begins
       starts_arg (arg l' g' fs) (start, mid, lab, one, comma, others) end lt = first_argument l from start lab (good (d + 1) start mid one (stops_at 6 Inside mid _ (omega arith) comma refl) (omega (arith, lt))).begins
 
@@ -397,7 +400,7 @@ module _ (most : ℕ) (R : Reader) (opened : (g : Goal) (d : ℕ) (ts : Toks) �
 
   -- up to the closing parenthesis
   opened_call : (f : Exp) (es : Args) (tight : Bool) (context : Context) (d : ℕ) (from mid last : Toks) → Own tight context d f from mid → GoodA es → is_post f ≡ true → opens context mid ≡ true → SpellsA es (after mid) last → kind_at last ≡ Some (kind.Mark mark.CloseParen)
-      → d + nest f < most → d + suc (nest_args es) ≤ most → post_with R tight context d from ≡ called_with most R context f d (args_in es) last
+      → d + nest f < most → over most levels d (suc (nest_args es)) (levels_args es) ≤ 0 → post_with R tight context d from ≡ called_with most R context f d (args_in es) last
   unfolding step calls_with call_with
   opened_call f es tight context d from mid last o good is lp sps close lt fit = let k = opens_kind context mid lp in
       o.post is (λ _. not_closes context mid _ k refl) (λ _. no_dot_at mid _ k refl) ∙ opened (calls_on context f) d mid ∙ rw (lp, lt-ltb _ _ lt, good d (after mid) last sps close fit) refl
@@ -442,17 +445,17 @@ module _ (most : ℕ) (R : Reader) (opened : (g : Goal) (d : ℕ) (ts : Toks) �
     pub when : is_if s ≡ true → kind_at from ≡ Some (kind.Word word.If)
 
   abbrev GoodS : Stm → Type 0
-  GoodS s = (d : ℕ) (from to : Toks) → SpellsS s from to → After (is_return s) to → d + nest_stm s ≤ most → Does d s from to
+  GoodS s = (d : ℕ) (from to : Toks) → SpellsS s from to → After (is_return s) to → over most levels d (nest_stm s) (levels_stm s) ≤ 0 → Does d s from to
 
   abbrev GoodB : Blk → Type 0
-  GoodB b = (d : ℕ) (from to : Toks) → SpellsB b from to → d + nest_blk b ≤ most → R body d from ≡ Ok (b, to)
+  GoodB b = (d : ℕ) (from to : Toks) → SpellsB b from to → over most levels d (nest_blk b) (levels_blk b) ≤ 0 → R body d from ≡ Ok (b, to)
 
   -- a block begins with its brace
   block_begins : (b : Blk) (from to : Toks) → SpellsB b from to → kind_at from ≡ Some (kind.Mark mark.OpenBrace)
   block_begins (block s ss) from to sp = sp.0
 
   -- a condition before a block
-  condition_is : (c : Exp) (b : Blk) (d : ℕ) (from mid to : Toks) → Good c → SpellsE c false Condition from mid → SpellsB b mid to → d + nest c ≤ most → R (expression Condition) d from ≡ Ok (c, mid)
+  condition_is : (c : Exp) (b : Blk) (d : ℕ) (from mid to : Toks) → Good c → SpellsE c false Condition from mid → SpellsB b mid to → over most levels d (nest c) (levels_exp c) ≤ 0 → R (expression Condition) d from ≡ Ok (c, mid)
   condition_is c b d from mid to good sp spb fit = expression_goal c Condition d from mid good sp (stops_brace 6 mid (omega arith) (block_begins b mid to spb)) fit
 
   -- after `let` or `var` and what they bind
@@ -460,7 +463,7 @@ module _ (most : ℕ) (R : Reader) (opened : (g : Goal) (d : ℕ) (ts : Toks) �
   unfolding statement_with let_with
   let_is k n d from lt kw nm = rw (lt-ltb d most lt, kw, nm) refl
 
-  bound_is : (k : Keyword) (n t : Option Name) (e : Exp) (d : ℕ) (from mid to : Toks) → Good e → Typed t (after (after from)) mid → assigns mid ≡ true → SpellsE e false Plain (after mid) to → Breaks to → d + 1 + nest e ≤ most
+  bound_is : (k : Keyword) (n t : Option Name) (e : Exp) (d : ℕ) (from mid to : Toks) → Good e → Typed t (after (after from)) mid → assigns mid ≡ true → SpellsE e false Plain (after mid) to → Breaks to → over most levels (d + 1) (nest e) (levels_exp e) ≤ 0
       → (typed_with (after (after from)) >>= λ u. bound_with R d from k n u.0 u.1) ≡ Ok (bound (till (here from) (exp_span e)) k n t e, to)
   unfolding bound_with
   bound_is k n t e d from mid to good ty eq sp br fit =
@@ -481,7 +484,7 @@ module _ (most : ℕ) (R : Reader) (opened : (g : Goal) (d : ℕ) (ts : Toks) �
     reads = let_is k n d from (omega (arith, fit)) kw nm ∙ rw (typed_is t (after (after from)) to ty br.annotates, br.assigns, is_s) refl;
   }
 
-  ignore_by : (s : Span) (t : Option Name) (e : Exp) (d : ℕ) (from mid to : Toks) → Good e → Ignored t from mid → SpellsE e false Plain (after mid) to → Breaks to → d + 1 + nest e ≤ most → s ≡ till (here from) (exp_span e) → Does d (ignore s t e) from to
+  ignore_by : (s : Span) (t : Option Name) (e : Exp) (d : ℕ) (from mid to : Toks) → Good e → Ignored t from mid → SpellsE e false Plain (after mid) to → Breaks to → over most levels (d + 1) (nest e) (levels_exp e) ≤ 0 → s ≡ till (here from) (exp_span e) → Does d (ignore s t e) from to
   unfolding statement_with simple_with ignore_with
   ignore_by s t e d from mid to good (inl (k, none, eq, at_)) sp br fit is_s =
       let spe : SpellsE e false Plain (after (after from)) to = rw at_ at sp in record {
@@ -785,7 +788,7 @@ module _ (most : ℕ) (R : Reader) (opened : (g : Goal) (d : ℕ) (ts : Toks) �
   separated_is s d from mid next r sep = rw (r, sep_is (is_return s) mid next sep) refl
 
   abbrev GoodL : Stms → Type 0
-  GoodL ss = (xs : List Stm) (d : ℕ) (from to : Toks) → SpellsL ss from to → d + nest_stms ss ≤ most → R (statements_on xs) d from ≡ Ok (xs ++ stms_in ss, to)
+  GoodL ss = (xs : List Stm) (d : ℕ) (from to : Toks) → SpellsL ss from to → over most levels d (nest_stms ss) (levels_stms ss) ≤ 0 → R (statements_on xs) d from ≡ Ok (xs ++ stms_in ss, to)
 
   list_none : GoodL no_stms
   unfolding step statements_with stms_in
@@ -803,7 +806,7 @@ module _ (most : ℕ) (R : Reader) (opened : (g : Goal) (d : ℕ) (ts : Toks) �
   block_is s ss goods d from to (lb, last, sps, is_to, is_s) fit =
       opened body d from ∙ rw (is_s, is_to, lt-ltb d most (omega (arith, fit)), at_mark mark.OpenBrace from _ lb, goods [] (d + 1) (after from) last sps (omega (arith, fit)), stms_list ss) refl
 
-  closure_is : (s : Span) (ns : List (Option Name)) (ss : Stms) → GoodL ss → GoodK (closure s ns ss)
+  closure_is : (s : Span) (ns : List ClosureName) (ss : Stms) → GoodL ss → GoodK (closure s ns ss)
   unfolding closure_with
   closure_is s ns ss goods d from to (lb, start, last, head, sps, is_to, is_s) fit =
       rw (is_s, is_to, lt-ltb d most (omega (arith, fit)), head, goods [] (d + 1) start last sps (omega (arith, fit)), stms_list ss) refl
@@ -815,7 +818,7 @@ module _ (most : ℕ) (R : Reader) (opened : (g : Goal) (d : ℕ) (ts : Toks) �
     pub begins : ends_clause from ≡ false
 
   abbrev GoodN : Stms → Type 0
-  GoodN ss = (xs : List Stm) (d : ℕ) (from to : Toks) → SpellsN ss from to → ends_clause to ≡ true → d + nest_stms ss ≤ most → Goes xs ss d from to
+  GoodN ss = (xs : List Stm) (d : ℕ) (from to : Toks) → SpellsN ss from to → ends_clause to ≡ true → over most levels d (nest_stms ss) (levels_stms ss) ≤ 0 → Goes xs ss d from to
 
   goes_one : (s : Stm) → GoodS s → GoodN (stm s no_stms)
   unfolding step clause_statements_with stms_in
@@ -836,7 +839,7 @@ module _ (most : ℕ) (R : Reader) (opened : (g : Goal) (d : ℕ) (ts : Toks) �
       }
 
   abbrev GoodH : When → Type 0
-  GoodH h = (d : ℕ) (from to : Toks) → SpellsH h from to → kind_at to ≡ Some (kind.Mark mark.Colon) → d + nest_when h ≤ most → head_with most R d from ≡ Ok (h, to)
+  GoodH h = (d : ℕ) (from to : Toks) → SpellsH h from to → kind_at to ≡ Some (kind.Mark mark.Colon) → over most levels d (nest_when h) (levels_when h) ≤ 0 → head_with levels R d from ≡ Ok (h, to)
 
   many_is : (ps : Pats) (d : ℕ) (from to : Toks) → SpellsPats ps from to → kind_at to ≡ Some (kind.Mark mark.Colon) → where_with R d (pats_in ps) to ≡ Ok (case_of ps, to)
   unfolding where_with pats_in
@@ -847,14 +850,14 @@ module _ (most : ℕ) (R : Reader) (opened : (g : Goal) (d : ℕ) (ts : Toks) �
   head_case : (ps : Pats) → GoodH (case_of ps)
   unfolding head_with
   head_case ps d from to (k, sps) colon fit =
-      rw (at_word word.Case from _ k, pats_are most ps d (after from) to sps (at_mark mark.OpenParen to _ colon) (at_mark mark.Comma to _ colon) fit) (many_is ps d (after from) to sps colon)
+      rw (at_word word.Case from _ k, pats_are levels ps 1 (after from) to sps (at_mark mark.OpenParen to _ colon) (at_mark mark.Comma to _ colon) (omega (arith, fit))) (many_is ps d (after from) to sps colon)
 
   head_where : (p : Pat) (e : Exp) → Good e → GoodH (case_where p e)
   unfolding head_with where_with pats_in
   head_where p e good d from to (k, mid, sp, w, spe) colon fit =
       rw (
         at_word word.Case from _ k,
-        pats_are most (pat p no_pats) d (after from) mid sp (at_mark mark.OpenParen mid _ w) (at_mark mark.Comma mid _ w) (omega (arith, fit)),
+        pats_are levels (pat p no_pats) 1 (after from) mid sp (at_mark mark.OpenParen mid _ w) (at_mark mark.Comma mid _ w) (omega (arith, fit)),
         at_word word.Where mid _ w,
         expression_goal e Plain d (after mid) to good spe (stops_at 6 Plain to _ (omega arith) colon refl) (omega (arith, fit)),
       ) refl
@@ -875,14 +878,14 @@ module _ (most : ℕ) (R : Reader) (opened : (g : Goal) (d : ℕ) (ts : Toks) �
   clauses_begin (clause s h ss cs) from to (colon, next, sph, k, sps, is_s, spc) = (head_begins h from colon sph).0
 
   clause_is : (s : Span) (h : When) (ss : Stms) (d : ℕ) (from colon next : Toks) → GoodH h → GoodN ss → SpellsH h from colon → kind_at colon ≡ Some (kind.Mark mark.Colon) → SpellsN ss (after colon) next → ends_clause next ≡ true
-      → s ≡ till (here from) (stms_end (here colon) ss) → d + nest_when h ≤ most → d + nest_stms ss ≤ most → clause_with most R d from ≡ Ok ((s, h, ss), next)
+      → s ≡ till (here from) (stms_end (here colon) ss) → over most levels d (nest_when h) (levels_when h) ≤ 0 → over most levels d (nest_stms ss) (levels_stms ss) ≤ 0 → clause_with levels R d from ≡ Ok ((s, h, ss), next)
   unfolding clause_with
   clause_is s h ss d from colon next goodh goods sph k sps end is_s fith fits =
       let rest = goods [] d (after colon) next sps end fits in
       rw (goodh d from colon sph k fith, at_mark mark.Colon colon _ k, rest.reads, stms_list ss, is_s) refl
 
   abbrev GoodC : Clauses → Type 0
-  GoodC cs = (xs : List Cla) (d : ℕ) (from to : Toks) → SpellsC cs from to → d + nest_clauses cs ≤ most → R (clauses_on xs) d from ≡ Ok (xs ++ clauses_in cs, to)
+  GoodC cs = (xs : List Cla) (d : ℕ) (from to : Toks) → SpellsC cs from to → over most levels d (nest_clauses cs) (levels_clauses cs) ≤ 0 → R (clauses_on xs) d from ≡ Ok (xs ++ clauses_in cs, to)
 
   clauses_none : GoodC no_clauses
   unfolding step clauses_with clauses_in

@@ -15,12 +15,14 @@ use Rattle.own_grammar.specs.declared.Context.{Context}
 use Rattle.own_grammar.specs.declared.Context.TheVariants.{Plain, Condition, Inside}
 use Rattle.own_grammar.specs.Tests.{Toks, after, here, till, kind_at, is_mark, is_word, name_at, root_at, operator_at, negative_at, unary_at, opens, closes, label_at, binder_at, keyword_at, range_at, assign_at, assigns, is_bare, closure_head}
 use Rattle.own_grammar.specs.Nesting.{exp_span, clo_span, level, chains, level_of, is_post, is_path, is_call, nest, nest_args, blk_span, stm_span, stms_end, typed_end, is_return}
+use Rattle.own_grammar.specs.Levels.{levels_args, levels_exp, levels_p, levels_pa, levels_pb, levels_pc, levels_pg, levels_pk, levels_pl, levels_ps}
 use Rattle.own_grammar.specs.Spells.{IsLeft, SpellsPath, SpellsE, SpellsA, SpellsB, SpellsPats}
 use Rattle.own_grammar.specs.Reading.{Depth, ◌>>=◌, syntax_at, depth_at, on_some, Goal, expression, operand, operators_on, calls_on, arguments_on, Reader, path_from, path_with, parenthesized_with, implicit_with, literal_at, primary_with, post_with, prefix_with, consume_with, pre_with, level_with, next_with, operator_with, operators_with, branches_with, choice_with, expression_with, closure_with, address_with, given_with, argument_with, arguments_with, all_arguments_with, called_with, call_with, closing_with, member_with, calls_with, step, statement, statements_on, clause_on, clauses_on, body, typed_with, bound, bound_with, let_with, ignore_with, discard_with, else_with, if_with, while_with, repeat_with, upper_with, lower_with, for_with, switch_with, return_with, path_in, assign_with, evaluate_with, simple_with, statement_with, sep_at, separated_with, statements_with, ends_clause, clause_statements_with, where_with, head_with, clause_with, clauses_with, block_with, patterns_on, read_pattern, read_at, read}
 use Rattle.own_grammar.proofs.Facts.{mark_kind, word_kind, at_mark, closes_kind}
 use Rattle.own_grammar.proofs.Edges.{sep_no_depth, clash}
 use Rattle.own_grammar.proofs.Lists.{args_in, pats_in, args_same}
 use Rattle.std.proofs.lemmas.Bool.{eqb-true}
+use Rattle.own_grammar.proofs.Within.{over}
 use Rattle.own_grammar.proofs.Steps.{done, chosen, some_or}
 use Rattle.own_grammar.proofs.Paths.{typed_sound}
 use Rattle.own_grammar.proofs.PatternsRead.{pats_sound}
@@ -30,37 +32,37 @@ use Rattle.own_grammar.proofs.Paths.{path_from_no_depth, path_no_depth, typed_no
 use Rattle.own_grammar.proofs.PatternsRead.{pats_deep}
 use Rattle.own_grammar.specs.Partial.{PExp, gone, p_parenthesized, p_consumed, p_prefix, p_binary, p_first, p_second, p_member, p_call, p_unclosed, p_call_closing, p_call_closure, PGiven, p_value, p_address, p_closing, PArgs, no_more, p_arg, p_then, PClo, p_opened, p_closure, PStm, gone_stm, p_let, p_assign, p_ignore, p_if, p_if_then, p_if_else, p_else_if, p_while, p_while_do, p_repeat, p_repeat_while, p_from, p_to, p_for, p_subject, p_switch, p_return, p_evaluate, PStms, p_stm, p_next, PClauses, p_patterns, p_where, p_clause, p_next_clause, PBlk, gone_block, p_block, level_p, nest_p, nest_pg, nest_pa, nest_pk, nest_ps, nest_pl, nest_pc, nest_pb, PartE, PartG, PartA, PartK, PartS, PartL, PartC, PartB}
 
-module _ (most : ℕ) where
+module _ (most levels : ℕ) where
   abbrev DeepE : ℕ → Bool → Context → ℕ → Toks → ℕ → Type 0
-  DeepE lvl tight context d from n = (p : PExp) × (at_ : Toks) × (length at_ ≡ n) × PartE p tight context from at_ × (most < d + nest_p p) × (level_p p ≤ lvl)
+  DeepE lvl tight context d from n = (p : PExp) × (at_ : Toks) × (length at_ ≡ n) × PartE p tight context from at_ × (0 < over most levels d (nest_p p) (levels_p p)) × (level_p p ≤ lvl)
 
   abbrev DeepG : ℕ → Toks → ℕ → Type 0
-  DeepG d from n = (p : PGiven) × (at_ : Toks) × (length at_ ≡ n) × PartG p from at_ × (most < d + nest_pg p)
+  DeepG d from n = (p : PGiven) × (at_ : Toks) × (length at_ ≡ n) × PartG p from at_ × (0 < over most levels d (nest_pg p) (levels_pg p))
 
   abbrev DeepA : ℕ → Toks → ℕ → Type 0
-  DeepA d from n = (p : PArgs) × (at_ : Toks) × (length at_ ≡ n) × PartA p from at_ × (most < d + suc (nest_pa p))
+  DeepA d from n = (p : PArgs) × (at_ : Toks) × (length at_ ≡ n) × PartA p from at_ × (0 < over most levels d (suc (nest_pa p)) (levels_pa p))
 
   -- a closure that lacks all its parts, or one that has its brace
   abbrev DeepK : ℕ → Toks → ℕ → Type 0
-  DeepK d from n = ((length from ≡ n) × (most ≤ d)) ⊎ ((p : PClo) × (at_ : Toks) × (length at_ ≡ n) × PartK p from at_ × (most < d + nest_pk p))
+  DeepK d from n = ((length from ≡ n) × (most ≤ d)) ⊎ ((p : PClo) × (at_ : Toks) × (length at_ ≡ n) × PartK p from at_ × (0 < over most levels d (nest_pk p) (levels_pk p)))
 
   abbrev DeepS : ℕ → Toks → ℕ → Type 0
-  DeepS d from n = (p : PStm) × (at_ : Toks) × (length at_ ≡ n) × PartS p from at_ × (most < d + nest_ps p)
+  DeepS d from n = (p : PStm) × (at_ : Toks) × (length at_ ≡ n) × PartS p from at_ × (0 < over most levels d (nest_ps p) (levels_ps p))
 
   abbrev DeepL : ℕ → Toks → ℕ → Type 0
-  DeepL d from n = (p : PStms) × (at_ : Toks) × (length at_ ≡ n) × PartL p from at_ × (most < d + nest_pl p)
+  DeepL d from n = (p : PStms) × (at_ : Toks) × (length at_ ≡ n) × PartL p from at_ × (0 < over most levels d (nest_pl p) (levels_pl p))
 
   abbrev DeepC : ℕ → Toks → ℕ → Type 0
-  DeepC d from n = (p : PClauses) × (at_ : Toks) × (length at_ ≡ n) × PartC p from at_ × (most < d + nest_pc p)
+  DeepC d from n = (p : PClauses) × (at_ : Toks) × (length at_ ≡ n) × PartC p from at_ × (0 < over most levels d (nest_pc p) (levels_pc p))
 
   abbrev pub DeepB : ℕ → Toks → ℕ → Type 0
-  DeepB d from n = (p : PBlk) × (at_ : Toks) × (length at_ ≡ n) × PartB p from at_ × (most < d + nest_pb p)
+  DeepB d from n = (p : PBlk) × (at_ : Toks) × (length at_ ≡ n) × PartB p from at_ × (0 < over most levels d (nest_pb p) (levels_pb p))
 
   abbrev Deep : (g : Goal) → ℕ → Toks → ℕ → Type 0
   Deep (expression context) d ts n = DeepE 6 false context d ts n
   Deep (operand context) d ts n = DeepE 0 true context d ts n
-  Deep (operators_on j context a) d ts n = (start : Toks) → SpellsE a false context start ts → d + nest a ≤ most → IsLeft (chains (suc j)) (suc j) (level_of a) → DeepE (suc j) false context d start n
-  Deep (calls_on context f) d ts n = (tight : Bool) (start : Toks) → SpellsE f tight context start ts → d + nest f ≤ most → is_post f ≡ true → (is_call f ≡ true → closes context ts ≡ false) → (is_path f ≡ true → is_mark mark.Dot ts ≡ false) → DeepE 0 tight context d start n
+  Deep (operators_on j context a) d ts n = (start : Toks) → SpellsE a false context start ts → over most levels d (nest a) (levels_exp a) ≤ 0 → IsLeft (chains (suc j)) (suc j) (level_of a) → DeepE (suc j) false context d start n
+  Deep (calls_on context f) d ts n = (tight : Bool) (start : Toks) → SpellsE f tight context start ts → over most levels d (nest f) (levels_exp f) ≤ 0 → is_post f ≡ true → (is_call f ≡ true → closes context ts ≡ false) → (is_path f ≡ true → is_mark mark.Dot ts ≡ false) → DeepE 0 tight context d start n
   Deep (arguments_on xs) d ts n = DeepA d ts n
   Deep statement d ts n = DeepS d ts n
   Deep (statements_on xs) d ts n = DeepL d ts n
@@ -71,7 +73,7 @@ module _ (most : ℕ) where
   abbrev Deeps : Reader → Type 0
   Deeps k = (g : Goal) (d : ℕ) (ts : Toks) (n : ℕ) → k g d ts ≡ Err (Depth n) → Deep g d ts n
 
-  module _ (k : Reader) (snd : Sound most k) (dp : Deeps k) where
+  module _ (some : 0 < levels) (k : Reader) (snd : Sound most levels k) (dp : Deeps k) where
     deep_parenthesized : (tight : Bool) (context : Context) (d : ℕ) (ts : Toks) (n : ℕ) → kind_at ts ≡ Some (kind.Mark mark.OpenParen) → parenthesized_with k d ts ≡ Err (Depth n) → DeepE 0 tight context d ts n
     unfolding parenthesized_with
     deep_parenthesized tight context d ts n lp e = elim (bind_err (k (expression Inside) (d + 1) (after ts)) _ _ e) [
@@ -99,7 +101,7 @@ module _ (most : ℕ) where
     unfolding post_with
     deep_post tight context d ts n lt e = elim (bind_err (primary_with k tight d ts) (λ e. k (calls_on context e.0) d e.1) _ e) [
       | inl y ↦ deep_primary tight context d ts n y
-      | inr y ↦ (let p = sound_primary most k snd tight context d ts y.0 lt y.1 in dp (calls_on context y.0.0) d y.0.1 n y.2 tight ts p.0 p.1 p.2 (λ z. absurd (clash _ z p.3)) p.4)
+      | inr y ↦ (let p = sound_primary most levels some k snd tight context d ts y.0 lt y.1 in dp (calls_on context y.0.0) d y.0.1 n y.2 tight ts p.0 p.1 p.2 (λ z. absurd (clash _ z p.3)) p.4)
     ]
 
     deep_prefix : (tight : Bool) (o : PrefixOperator) (context : Context) (d : ℕ) (ts : Toks) (n : ℕ) → unary_at tight ts ≡ Some o → prefix_with k o context d ts ≡ Err (Depth n) → DeepE 0 tight context d ts n
@@ -137,10 +139,10 @@ module _ (most : ℕ) where
     deep_level zero context d ts n e = deep_pre false context d ts n e
     deep_level (suc j) context d ts n e = elim (bind_err (level_with most k j context d ts) (λ e. k (operators_on j context e.0) d e.1) _ e) [
       | inl y ↦ wider j (suc j) false context d ts n (omega arith) (deep_level j context d ts n y)
-      | inr y ↦ (let p = sound_level most k snd j context d ts y.0 y.1 in dp (operators_on j context y.0.0) d y.0.1 n y.2 ts p.0 p.1 (left_of (chains (suc j)) _ j p.2))
+      | inr y ↦ (let p = sound_level most levels some k snd j context d ts y.0 y.1 in dp (operators_on j context y.0.0) d y.0.1 n y.2 ts p.0 p.1 (left_of (chains (suc j)) _ j p.2))
     ]
 
-    deep_next : (c : Bool) (j : ℕ) (context : Context) (d : ℕ) (e : Exp) (ts start : Toks) (n : ℕ) → chains (suc j) ≡ c → next_with k c j context d e ts ≡ Err (Depth n) → SpellsE e false context start ts → d + nest e ≤ most → level_of e ≡ suc j → DeepE (suc j) false context d start n
+    deep_next : (c : Bool) (j : ℕ) (context : Context) (d : ℕ) (e : Exp) (ts start : Toks) (n : ℕ) → chains (suc j) ≡ c → next_with k c j context d e ts ≡ Err (Depth n) → SpellsE e false context start ts → over most levels d (nest e) (levels_exp e) ≤ 0 → level_of e ≡ suc j → DeepE (suc j) false context d start n
     unfolding next_with
     deep_next true j context d e ts start n is r sp fit same = dp (operators_on j context e) d ts n r start sp fit (rw is (omega (arith, same)))
     deep_next false j context d e ts start n is r sp fit same = absurd (no_ok _ n r)
@@ -156,7 +158,7 @@ module _ (most : ℕ) where
             | inr z ↦ (p_binary o a gone, after ts, z.1, (ts, sp, rw same left, is, refl, omega (arith, same)), omega (arith, z.0), omega (arith, same))
             | inl z ↦ elim (bind_err (level_with most k j context (d + 1) (after ts)) more _ z.1) [
               | inl v ↦ (let r = deep_level j context (d + 1) (after ts) n v in (p_binary o a r.0, r.1, r.2, (ts, sp, rw same left, is, r.3, omega (arith, r.5, same)), omega (arith, r.4), omega (arith, same)))
-              | inr v ↦ (let b = sound_level most k snd j context (d + 1) (after ts) v.0 v.1 in
+              | inr v ↦ (let b = sound_level most levels some k snd j context (d + 1) (after ts) v.0 v.1 in
                   deep_next (chains (suc j)) j context d (binary (till (exp_span a) (exp_span v.0.0)) o (here ts) a v.0.0) v.0.1 start n refl v.2 (ts, sp, rw same left, is, refl, b.0, omega (arith, b.2, same), refl) (omega (arith, z.0, b.1)) same)
             ]
           ])
@@ -186,7 +188,7 @@ module _ (most : ℕ) where
     deep_expression context d ts n e =
         elim (bind_err (level_with most k 5 context d ts) (λ c. cond (is_mark mark.Question c.1) (cond (ltb (d + nest c.0) most) (branches_with k context d c.0 (after c.1)) (depth_at (after c.1))) (Ok (c.0, c.1))) _ e) [
           | inl y ↦ wider 5 6 false context d ts n (omega arith) (deep_level 5 context d ts n y)
-          | inr y ↦ (let p = sound_level most k snd 5 context d ts y.0 y.1 in elim (chosen (is_mark mark.Question y.0.1) (cond (ltb (d + nest y.0.0) most) (branches_with k context d y.0.0 (after y.0.1)) (depth_at (after y.0.1))) (Ok (y.0.0, y.0.1)) _ y.2) [
+          | inr y ↦ (let p = sound_level most levels some k snd 5 context d ts y.0 y.1 in elim (chosen (is_mark mark.Question y.0.1) (cond (ltb (d + nest y.0.0) most) (branches_with k context d y.0.0 (after y.0.1)) (depth_at (after y.0.1))) (Ok (y.0.0, y.0.1)) _ y.2) [
             | inr z ↦ absurd (no_ok _ n z.1)
             | inl z ↦ elim (lim (d + nest y.0.0) most (branches_with k context d y.0.0 (after y.0.1)) (length (after y.0.1)) n z.1) [
               | inr u ↦ (p_first y.0.0 gone, after y.0.1, u.1, (y.0.1, p.0, omega (arith, p.2), mark_kind mark.Question y.0.1 z.0, refl), omega (arith, u.0), omega arith)
@@ -240,7 +242,7 @@ module _ (most : ℕ) where
     unfolding arguments_with
     deep_arguments xs d ts n e = elim (bind_err (argument_with most k d ts) (λ a. cond (is_mark mark.Comma a.1) (k (arguments_on (xs ++ a.0 ∷ [])) d (after a.1)) (done (xs ++ a.0 ∷ [], a.1))) _ e) [
       | inl y ↦ deep_argument d ts n y
-      | inr y ↦ (let p = sound_argument most k snd d ts y.0 y.1 in elim (chosen (is_mark mark.Comma y.0.1) _ _ _ y.2) [
+      | inr y ↦ (let p = sound_argument most levels some k snd d ts y.0 y.1 in elim (chosen (is_mark mark.Comma y.0.1) _ _ _ y.2) [
         | inl z ↦ (let r = dp (arguments_on (xs ++ y.0.0 ∷ [])) d (after y.0.1) n z.1 in (p_then y.0.0.0 y.0.0.1 r.0, r.1, r.2, (p.0, y.0.1, p.1, p.2, mark_kind mark.Comma y.0.1 z.0, r.3), omega (arith, r.4)))
         | inr z ↦ absurd (no_ok _ n z.1)
       ])
@@ -251,9 +253,9 @@ module _ (most : ℕ) where
     closing_of f es tight context d start from ts n sp is lp sps close lb (inr r) = (p_call_closing f es r.0, r.1, r.2, (from, ts, sp, is, lp, sps, close, lb, r.3), omega (arith, r.4), omega arith)
 
     deep_called : (tight : Bool) (context : Context) (f : Exp) (d : ℕ) (xs : List Arg) (ts start from : Toks) (es : Args) (n : ℕ) → called_with most k context f d xs ts ≡ Err (Depth n) → xs ≡ args_in es
-        → SpellsE f tight context start from → is_post f ≡ true → opens context from ≡ true → SpellsA es (after from) ts → d + nest f < most → d + suc (nest_args es) ≤ most → DeepE 0 tight context d start n
+        → SpellsE f tight context start from → is_post f ≡ true → opens context from ≡ true → SpellsA es (after from) ts → d + nest f < most → levels_exp f ≤ levels → over most levels d (suc (nest_args es)) (levels_args es) ≤ 0 → DeepE 0 tight context d start n
     unfolding called_with
-    deep_called tight context f d xs ts start from es n e same sp is lp sps lt lts =
+    deep_called tight context f d xs ts start from es n e same sp is lp sps lt few lts =
         let args : args_of xs ≡ es = args_same xs es same in
         let q = syn (is_mark mark.CloseParen ts) (cond (closes context (after ts)) (closure_with most k (d + 1) (after ts) >>= λ c. k (calls_on context (call_closing (till (exp_span f) (clo_span c.0)) f (args_of xs) c.0)) d c.1) (k (calls_on context (call (till (exp_span f) (here ts)) f (args_of xs))) d (after ts))) (length ts) n e in
         let close = mark_kind mark.CloseParen ts q.0 in
@@ -263,23 +265,23 @@ module _ (most : ℕ) where
               let lb = at_mark mark.OpenBrace (after ts) _ (closes_kind context (after ts) y.0) in
               elim (bind_err (closure_with most k (d + 1) (after ts)) (λ c. k (calls_on context (call_closing (till (exp_span f) (clo_span c.0)) f es c.0)) d c.1) _ y1) [
                 | inl z ↦ closing_of f es tight context d start from ts n sp is lp sps close y.0 (deep_closure (d + 1) (after ts) n lb z)
-                | inr z ↦ (let p = sound_closure most k snd (d + 1) (after ts) z.0 lb z.1 in
-                    dp (calls_on context (call_closing (till (exp_span f) (clo_span z.0.0)) f es z.0.0)) d z.0.1 n z.2 tight start (from, ts, sp, is, lp, sps, close, y.0, p.0, refl) (omega (arith, p.1)) refl (λ u. absurd cc) (λ u. absurd cc))
+                | inr z ↦ (let p = sound_closure most levels some k snd (d + 1) (after ts) z.0 lb z.1 in
+                    dp (calls_on context (call_closing (till (exp_span f) (clo_span z.0.0)) f es z.0.0)) d z.0.1 n z.2 tight start (from, ts, sp, is, lp, sps, close, y.0, p.0, refl) (omega (arith, few, p.1)) refl (λ u. absurd cc) (λ u. absurd cc))
               ])
           | inr y ↦ dp (calls_on context (call (till (exp_span f) (here ts)) f es)) d (after ts) n (rw args at y.1) tight start (from, ts, sp, is, lp, sps, close, refl, refl) (omega arith) refl (λ u. y.0) (λ u. absurd cc)
         ]
 
-    deep_call : (tight : Bool) (context : Context) (f : Exp) (d : ℕ) (ts start : Toks) (n : ℕ) → call_with most k context f d ts ≡ Err (Depth n) → opens context ts ≡ true → SpellsE f tight context start ts → is_post f ≡ true → DeepE 0 tight context d start n
+    deep_call : (tight : Bool) (context : Context) (f : Exp) (d : ℕ) (ts start : Toks) (n : ℕ) → call_with most k context f d ts ≡ Err (Depth n) → opens context ts ≡ true → SpellsE f tight context start ts → is_post f ≡ true → levels_exp f ≤ levels → DeepE 0 tight context d start n
     unfolding call_with all_arguments_with
-    deep_call tight context f d ts start n e lp sp is = elim (lim (d + nest f) most (all_arguments_with most k d (after ts) >>= λ xs. called_with most k context f d xs.0 xs.1) (length (after ts)) n e) [
+    deep_call tight context f d ts start n e lp sp is few = elim (lim (d + nest f) most (all_arguments_with most k d (after ts) >>= λ xs. called_with most k context f d xs.0 xs.1) (length (after ts)) n e) [
       | inr z ↦ (p_call f no_more, after ts, z.1, (ts, sp, is, lp, refl), omega (arith, z.0), omega arith)
       | inl z ↦ elim (bind_err (all_arguments_with most k d (after ts)) (λ xs. called_with most k context f d xs.0 xs.1) _ z.1) [
         | inl v ↦ elim (chosen (is_mark mark.CloseParen (after ts)) _ _ _ v) [
           | inl u ↦ absurd (no_ok _ n u.1)
           | inr u ↦ (let r = deep_arguments [] d (after ts) n u.1 in (p_call f r.0, r.1, r.2, (ts, sp, is, lp, r.3), omega (arith, r.4), omega arith))
         ]
-        | inr v ↦ (let p = sound_all_arguments most k snd d (after ts) v.0 (omega (arith, z.0)) v.1 in
-            deep_called tight context f d v.0.0 v.0.1 start ts p.0 n v.2 p.1 sp is lp p.2 z.0 p.3)
+        | inr v ↦ (let p = sound_all_arguments most levels some k snd d (after ts) v.0 (omega (arith, z.0)) v.1 in
+            deep_called tight context f d v.0.0 v.0.1 start ts p.0 n v.2 p.1 sp is lp p.2 z.0 few p.3)
       ]
     ]
 
@@ -288,38 +290,38 @@ module _ (most : ℕ) where
     closure_of f tight context d start ts n sp is isnt lb lt (inl y) = absurd (omega (arith, lt, y.1, nest_positive f))
     closure_of f tight context d start ts n sp is isnt lb lt (inr r) = (p_call_closure f r.0, r.1, r.2, (ts, sp, is, isnt, lb, r.3), omega (arith, r.4), omega arith)
 
-    deep_closing : (tight : Bool) (context : Context) (f : Exp) (d : ℕ) (ts start : Toks) (n : ℕ) → closing_with most k context f d ts ≡ Err (Depth n) → closes context ts ≡ true → SpellsE f tight context start ts → is_post f ≡ true → is_call f ≡ false → DeepE 0 tight context d start n
+    deep_closing : (tight : Bool) (context : Context) (f : Exp) (d : ℕ) (ts start : Toks) (n : ℕ) → closing_with most k context f d ts ≡ Err (Depth n) → closes context ts ≡ true → SpellsE f tight context start ts → is_post f ≡ true → levels_exp f ≤ levels → is_call f ≡ false → DeepE 0 tight context d start n
     unfolding closing_with
-    deep_closing tight context f d ts start n e c sp is isnt =
+    deep_closing tight context f d ts start n e c sp is few isnt =
         let lb = at_mark mark.OpenBrace ts _ (closes_kind context ts c) in
         let more = λ (c : Clo × Toks). k (calls_on context (call_closure (till (exp_span f) (clo_span c.0)) f c.0)) d c.1 in
         elim (lim (d + nest f) most (closure_with most k (d + 1) ts >>= more) (length (after ts)) n e) [
           | inr z ↦ (p_call_closure f p_opened, after ts, z.1, (ts, sp, is, isnt, c, (closes_kind context ts c, refl)), omega (arith, z.0), omega arith)
           | inl z ↦ elim (bind_err (closure_with most k (d + 1) ts) more _ z.1) [
             | inl v ↦ closure_of f tight context d start ts n sp is isnt c z.0 (deep_closure (d + 1) ts n lb v)
-            | inr v ↦ (let p = sound_closure most k snd (d + 1) ts v.0 lb v.1 in
-                dp (calls_on context (call_closure (till (exp_span f) (clo_span v.0.0)) f v.0.0)) d v.0.1 n v.2 tight start (ts, sp, is, isnt, c, p.0, refl) (omega (arith, z.0, p.1)) refl (λ u. absurd cc) (λ u. absurd cc))
+            | inr v ↦ (let p = sound_closure most levels some k snd (d + 1) ts v.0 lb v.1 in
+                dp (calls_on context (call_closure (till (exp_span f) (clo_span v.0.0)) f v.0.0)) d v.0.1 n v.2 tight start (ts, sp, is, isnt, c, p.0, refl) (omega (arith, z.0, few, p.1)) refl (λ u. absurd cc) (λ u. absurd cc))
           ]
         ]
 
-    deep_member : (tight : Bool) (context : Context) (f : Exp) (d : ℕ) (ts start : Toks) (n : ℕ) → member_with most k context f d ts ≡ Err (Depth n) → is_mark mark.Dot ts ≡ true → SpellsE f tight context start ts → is_post f ≡ true → is_path f ≡ false → DeepE 0 tight context d start n
+    deep_member : (tight : Bool) (context : Context) (f : Exp) (d : ℕ) (ts start : Toks) (n : ℕ) → member_with most k context f d ts ≡ Err (Depth n) → is_mark mark.Dot ts ≡ true → SpellsE f tight context start ts → is_post f ≡ true → levels_exp f ≤ levels → is_path f ≡ false → DeepE 0 tight context d start n
     unfolding member_with
-    deep_member tight context f d ts start n e dot sp is isnt =
+    deep_member tight context f d ts start n e dot sp is few isnt =
         let more = λ (m : Name). k (calls_on context (member (till (exp_span f) (here (after ts))) f m)) d (after (after ts)) in
         elim (lim (d + nest f) most (on_some (name_at (after ts)) more (syntax_at (after ts))) (length (after ts)) n e) [
           | inr z ↦ (p_member f, after ts, z.1, (ts, sp, is, isnt, mark_kind mark.Dot ts dot, refl), omega (arith, z.0), omega arith)
           | inl z ↦ (let s = some_syn (name_at (after ts)) more (length (after ts)) n z.1 in
-              dp (calls_on context (member (till (exp_span f) (here (after ts))) f s.0)) d (after (after ts)) n s.2 tight start (ts, sp, is, isnt, (mark_kind mark.Dot ts dot, s.1), refl, refl) (omega (arith, z.0)) refl (λ u. absurd cc) (λ u. absurd cc))
+              dp (calls_on context (member (till (exp_span f) (here (after ts))) f s.0)) d (after (after ts)) n s.2 tight start (ts, sp, is, isnt, (mark_kind mark.Dot ts dot, s.1), refl, refl) (omega (arith, z.0, few)) refl (λ u. absurd cc) (λ u. absurd cc))
         ]
 
     deep_calls : (context : Context) (f : Exp) (d : ℕ) (ts : Toks) (n : ℕ) → calls_with most k context f d ts ≡ Err (Depth n) → Deep (calls_on context f) d ts n
     unfolding calls_with
     deep_calls context f d ts n e tight start sp fit is closed pathed = elim (chosen (opens context ts) _ _ _ e) [
-      | inl y ↦ deep_call tight context f d ts start n y.1 y.0 sp is
+      | inl y ↦ deep_call tight context f d ts start n y.1 y.0 sp is (omega (arith, fit))
       | inr y ↦ elim (chosen (closes context ts) _ _ _ y.1) [
-        | inl z ↦ deep_closing tight context f d ts start n z.1 z.0 sp is (never (is_call f) (closes context ts) closed z.0)
+        | inl z ↦ deep_closing tight context f d ts start n z.1 z.0 sp is (omega (arith, fit)) (never (is_call f) (closes context ts) closed z.0)
         | inr z ↦ elim (chosen (is_mark mark.Dot ts) _ _ _ z.1) [
-          | inl u ↦ deep_member tight context f d ts start n u.1 u.0 sp is (never (is_path f) (is_mark mark.Dot ts) pathed u.0)
+          | inl u ↦ deep_member tight context f d ts start n u.1 u.0 sp is (omega (arith, fit)) (never (is_path f) (is_mark mark.Dot ts) pathed u.0)
           | inr u ↦ absurd (no_ok _ n u.1)
         ]
       ]
@@ -456,7 +458,7 @@ module _ (most : ℕ) where
     unfolding evaluate_with
     deep_evaluate d ts n e = elim (bind_err (expression_with most k Plain (d + 1) ts) (λ c. on_some (assign_at c.1) (assign_with k d c.0 c.1) (done (evaluate c.0, c.1))) _ e) [
       | inl y ↦ (let r = deep_expression Plain (d + 1) ts n y in (p_evaluate r.0, r.1, r.2, r.3, omega (arith, r.4)))
-      | inr y ↦ (let p = sound_expression most k snd Plain (d + 1) ts y.0 y.1 in elim (some_or (assign_at y.0.1) (assign_with k d y.0.0 y.0.1) (done (evaluate y.0.0, y.0.1)) _ y.2) [
+      | inr y ↦ (let p = sound_expression most levels some k snd Plain (d + 1) ts y.0 y.1 in elim (some_or (assign_at y.0.1) (assign_with k d y.0.0 y.0.1) (done (evaluate y.0.0, y.0.1)) _ y.2) [
         | inr z ↦ absurd (no_ok _ n z.1)
         | inl o ↦ deep_assign d ts y.0.1 y.0.0 o.0 n p.0 o.1 o.2
       ])
@@ -519,7 +521,7 @@ module _ (most : ℕ) where
       | inl y ↦ absurd (no_ok _ n y.1)
       | inr y ↦ elim (bind_err (separated_with most k d ts) (λ s. k (statements_on (xs ++ s.0 ∷ [])) d s.1) _ y.1) [
         | inl z ↦ (let r = deep_separated d ts n z in (p_stm r.0, r.1, r.2, r.3, r.4))
-        | inr z ↦ (let p = sound_separated most k snd d ts z.0 z.1 in let r = dp (statements_on (xs ++ z.0.0 ∷ [])) d z.0.1 n z.2 in
+        | inr z ↦ (let p = sound_separated most levels some k snd d ts z.0 z.1 in let r = dp (statements_on (xs ++ z.0.0 ∷ [])) d z.0.1 n z.2 in
             (p_next z.0.0 r.0, r.1, r.2, (p.0, z.0.1, p.1, p.2, r.3), omega (arith, r.4)))
       ]
     ]
@@ -530,7 +532,7 @@ module _ (most : ℕ) where
     unfolding clause_statements_with
     deep_clause_statements xs d ts n e = elim (bind_err (separated_with most k d ts) (λ s. cond (ends_clause s.1) (done (xs ++ s.0 ∷ [], s.1)) (k (clause_on (xs ++ s.0 ∷ [])) d s.1)) _ e) [
       | inl z ↦ (let r = deep_separated d ts n z in (p_stm r.0, r.1, r.2, r.3, r.4))
-      | inr z ↦ (let p = sound_separated most k snd d ts z.0 z.1 in elim (chosen (ends_clause z.0.1) (done (xs ++ z.0.0 ∷ [], z.0.1)) (k (clause_on (xs ++ z.0.0 ∷ [])) d z.0.1) _ z.2) [
+      | inr z ↦ (let p = sound_separated most levels some k snd d ts z.0 z.1 in elim (chosen (ends_clause z.0.1) (done (xs ++ z.0.0 ∷ [], z.0.1)) (k (clause_on (xs ++ z.0.0 ∷ [])) d z.0.1) _ z.2) [
         | inl y ↦ absurd (no_ok _ n y.1)
         | inr y ↦ (let r = dp (clause_on (xs ++ z.0.0 ∷ [])) d z.0.1 n y.1 in (p_next z.0.0 r.0, r.1, r.2, (p.0, z.0.1, p.1, p.2, r.3), omega (arith, r.4)))
       ])
@@ -546,34 +548,34 @@ module _ (most : ℕ) where
     ]
     deep_where p (pat q ps) d ts us n kw sp e = absurd (no_ok _ n e)
 
-    deep_head : (d : ℕ) (ts : Toks) (n : ℕ) → head_with most k d ts ≡ Err (Depth n) → DeepC d ts n
+    deep_head : (d : ℕ) (ts : Toks) (n : ℕ) → head_with levels k d ts ≡ Err (Depth n) → DeepC d ts n
     unfolding head_with
-    deep_head d ts n e = elim (chosen (is_word word.Case ts) (read_pattern most (patterns_on []) d (after ts) >>= λ ps. where_with k d ps.0 ps.1) (cond (is_word word.Default ts) (done (default, after ts)) (syntax_at ts)) _ e) [
-      | inl y ↦ elim (bind_err (read_pattern most (patterns_on []) d (after ts)) (λ ps. where_with k d ps.0 ps.1) _ y.1) [
-        | inl z ↦ (let r = pats_deep most d (after ts) n z in (p_patterns r.0, r.1, r.2, (word_kind word.Case ts y.0, r.3), r.4))
-        | inr z ↦ (let s = pats_sound most d (after ts) z.0 z.1 in deep_where s.0 s.1 d ts z.0.1 n (word_kind word.Case ts y.0) s.3 (rw s.2 at z.2))
+    deep_head d ts n e = elim (chosen (is_word word.Case ts) (read_pattern levels (patterns_on []) 1 (after ts) >>= λ ps. where_with k d ps.0 ps.1) (cond (is_word word.Default ts) (done (default, after ts)) (syntax_at ts)) _ e) [
+      | inl y ↦ elim (bind_err (read_pattern levels (patterns_on []) 1 (after ts)) (λ ps. where_with k d ps.0 ps.1) _ y.1) [
+        | inl z ↦ (let r = pats_deep levels 1 (after ts) n z in (p_patterns r.0, r.1, r.2, (word_kind word.Case ts y.0, r.3), omega (arith, r.4)))
+        | inr z ↦ (let s = pats_sound levels 1 (after ts) z.0 z.1 in deep_where s.0 s.1 d ts z.0.1 n (word_kind word.Case ts y.0) s.3 (rw s.2 at z.2))
       ]
       | inr y ↦ absurd (let q = syn (is_word word.Default ts) (done (default, after ts)) _ n y.1 in no_ok _ n q.1)
     ]
 
-    deep_clause : (d : ℕ) (ts : Toks) (n : ℕ) → clause_with most k d ts ≡ Err (Depth n) → DeepC d ts n
+    deep_clause : (d : ℕ) (ts : Toks) (n : ℕ) → clause_with levels k d ts ≡ Err (Depth n) → DeepC d ts n
     unfolding clause_with
-    deep_clause d ts n e = elim (bind_err (head_with most k d ts) (λ h. cond (is_mark mark.Colon h.1) (k (clause_on []) d (after h.1) >>= λ ss. done ((till (here ts) (stms_end (here h.1) (stms_of ss.0)), h.0, stms_of ss.0), ss.1)) (syntax_at h.1)) _ e) [
+    deep_clause d ts n e = elim (bind_err (head_with levels k d ts) (λ h. cond (is_mark mark.Colon h.1) (k (clause_on []) d (after h.1) >>= λ ss. done ((till (here ts) (stms_end (here h.1) (stms_of ss.0)), h.0, stms_of ss.0), ss.1)) (syntax_at h.1)) _ e) [
       | inl y ↦ deep_head d ts n y
       | inr y ↦ (
-          let p = sound_head most k snd d ts y.0 y.1 in
+          let p = sound_head most levels some k snd d ts y.0 y.1 in
           let q = syn (is_mark mark.Colon y.0.1) (k (clause_on []) d (after y.0.1) >>= λ ss. done ((till (here ts) (stms_end (here y.0.1) (stms_of ss.0)), y.0.0, stms_of ss.0), ss.1)) _ n y.2 in
           let r = dp (clause_on []) d (after y.0.1) n (bind_deep (k (clause_on []) d (after y.0.1)) (λ ss. ((till (here ts) (stms_end (here y.0.1) (stms_of ss.0)), y.0.0, stms_of ss.0), ss.1)) n q.1) in
           (p_clause y.0.0 r.0, r.1, r.2, (y.0.1, p.0, mark_kind mark.Colon y.0.1 q.0, r.3), omega (arith, r.4)))
     ]
 
-    deep_clauses : (xs : List Cla) (d : ℕ) (ts : Toks) (n : ℕ) → clauses_with most k xs d ts ≡ Err (Depth n) → DeepC d ts n
+    deep_clauses : (xs : List Cla) (d : ℕ) (ts : Toks) (n : ℕ) → clauses_with levels k xs d ts ≡ Err (Depth n) → DeepC d ts n
     unfolding clauses_with
     deep_clauses xs d ts n e = elim (chosen (is_mark mark.CloseBrace ts) _ _ _ e) [
       | inl y ↦ absurd (no_ok _ n y.1)
-      | inr y ↦ elim (bind_err (clause_with most k d ts) (λ c. k (clauses_on (xs ++ c.0 ∷ [])) d c.1) _ y.1) [
+      | inr y ↦ elim (bind_err (clause_with levels k d ts) (λ c. k (clauses_on (xs ++ c.0 ∷ [])) d c.1) _ y.1) [
         | inl z ↦ deep_clause d ts n z
-        | inr z ↦ (let p = sound_clause most k snd d ts z.0 z.1 in let r = dp (clauses_on (xs ++ z.0.0 ∷ [])) d z.0.1 n z.2 in
+        | inr z ↦ (let p = sound_clause most levels some k snd d ts z.0 z.1 in let r = dp (clauses_on (xs ++ z.0.0 ∷ [])) d z.0.1 n z.2 in
             (p_next_clause z.0.0.1 z.0.0.2 r.0, r.1, r.2, (p.0, z.0.1, p.1, p.2, p.3, r.3), omega (arith, r.4)))
       ]
     ]
@@ -588,7 +590,7 @@ module _ (most : ℕ) where
           (p_block r.0, r.1, r.2, (mark_kind mark.OpenBrace ts q.0, r.3), omega (arith, r.4)))
     ]
 
-    deep_step : Deeps (step most k)
+    deep_step : Deeps (step most levels k)
     unfolding step
     deep_step (expression context) d ts n e = deep_expression context d ts n e
     deep_step (operand context) d ts n e = deep_pre true context d ts n e
@@ -601,12 +603,12 @@ module _ (most : ℕ) where
     deep_step (clauses_on xs) d ts n e = deep_clauses xs d ts n e
     deep_step body d ts n e = deep_block d ts n e
 
-  deep_at : (fuel : ℕ) → Deeps (read_at most fuel)
+  deep_at : 0 < levels → (fuel : ℕ) → Deeps (read_at most levels fuel)
   unfolding read_at
-  deep_at zero g d ts n e = absurd cc
-  deep_at (suc fuel) g d ts n e = deep_step (read_at most fuel) (sound_at most fuel) (deep_at fuel) g d ts n e
+  deep_at some zero g d ts n e = absurd cc
+  deep_at some (suc fuel) g d ts n e = deep_step some (read_at most levels fuel) (sound_at most levels some fuel) (deep_at some fuel) g d ts n e
 
   -- Depth comes only where the tokens before the named one stand a level too deep.
-  pub block_depth : (d : ℕ) (ts : Toks) (n : ℕ) → read most body d ts ≡ Err (Depth n) → DeepB d ts n
+  pub block_depth : 0 < levels → (d : ℕ) (ts : Toks) (n : ℕ) → read most levels body d ts ≡ Err (Depth n) → DeepB d ts n
   unfolding read
-  block_depth d ts n e = deep_at (suc (length ts)) body d ts n e
+  block_depth some d ts n e = deep_at some (suc (length ts)) body d ts n e

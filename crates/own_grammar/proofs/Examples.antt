@@ -14,7 +14,7 @@ use Rattle.own_grammar.specs.Lists.{listed_at, listed_on, bracketed_with, separa
 use Rattle.own_grammar.specs.Declarations.{passing_at, changing_at, is_named}
 use Rattle.own_grammar.specs.ReadingFile.{wanted, result_with, returns_with, moded_with, inner_with, arrow_with, type_with, labelled_with, parameter_with, parameters_with, function_body_with, function_with, method_with, field_with, initializer_with, deinitializer_with, struct_member_with, name_with, item_with, cases_with, enum_member_with, noncopyable_with, members_with, named_with, declaration_with, end_with, main_with, is_main, read_file}
 use Rattle.own_grammar.specs.Nesting.{level}
-use Rattle.own_grammar.specs.Tests.{Toks, kind_at, is_mark, is_word, name_at, number_at, text_at, truth_at, root_at, binder_at, keyword_at, is_even, operator_at, leads, prefix_at, negative_at, unary_at, range_at, is_new_line, assign_at, assigns, annotates, opens, closes, goes_on, ends, is_bare, label_at, names_at, closure_head}
+use Rattle.own_grammar.specs.Tests.{Toks, kind_at, is_mark, is_word, name_at, number_at, text_at, truth_at, root_at, binder_at, closure_name_at, keyword_at, is_even, operator_at, leads, prefix_at, negative_at, unary_at, range_at, is_new_line, assign_at, assigns, annotates, opens, closes, goes_on, ends, is_bare, label_at, names_at, closure_head}
 use Rattle.own_grammar.specs.Reading.{Fault, Syntax, Depth, Read, body, fields_on, path_from, path_with, typed_with, let_parts_with, let_case_with, let_literal_with, let_pattern_with, let_patterns_with, parts_with, case_with, bind_with, literal_pattern_with, pattern_with, patterns_with, pattern_step, read_pattern_at, read_pattern, parenthesized_with, implicit_with, literal_at, primary_with, post_with, prefix_with, consume_with, pre_with, level_with, next_with, operator_with, operators_with, branches_with, choice_with, expression_with, closure_with, address_with, given_with, argument_with, arguments_with, all_arguments_with, called_with, call_with, closing_with, member_with, calls_with, bound_with, let_with, ignore_with, discard_with, else_with, if_with, while_with, repeat_with, upper_with, lower_with, for_with, switch_with, return_with, assign_with, evaluate_with, simple_with, statement_with, sep_at, separated_with, statements_with, ends_clause, clause_statements_with, where_with, head_with, clause_with, clauses_with, block_with, step, read_at, read}
 
 -- a token with its flags: space before, space after, line before
@@ -95,8 +95,8 @@ shapes =
     (tok (kind.Mark mark.OpenBrace) true true false ∷ tok (kind.Name (codes "a")) true true false ∷ tok (kind.Mark mark.Plus) true true true ∷ tok (kind.Name (codes "b")) true true false ∷ tok (kind.Mark mark.Question) true true true ∷ tok (kind.Name (codes "c")) true true false ∷ tok (kind.Mark mark.Colon) true true true ∷ tok (kind.Name (codes "d")) true true false ∷ tok (kind.Mark mark.Dot) true false true ∷ tok (kind.Name (codes "e")) false true false ∷ tok (kind.Mark mark.CloseBrace) true true false ∷ [], codes "((a2b)?c:d)") ∷
     []
 
-shapes_are : map (λ (row : Toks × List ℕ). shape_of (read 100 body 0 row.0)) shapes ≡ map (λ (row : Toks × List ℕ). row.1) shapes
-unfolding fields_on path_from path_with typed_with let_parts_with let_case_with let_literal_with let_pattern_with let_patterns_with parts_with case_with bind_with literal_pattern_with pattern_with patterns_with pattern_step read_pattern_at read_pattern parenthesized_with implicit_with literal_at primary_with post_with prefix_with consume_with pre_with level_with next_with operator_with operators_with branches_with choice_with expression_with closure_with address_with given_with argument_with arguments_with all_arguments_with called_with call_with closing_with member_with calls_with bound_with let_with ignore_with discard_with else_with if_with while_with repeat_with upper_with lower_with for_with switch_with return_with assign_with evaluate_with simple_with statement_with sep_at separated_with statements_with ends_clause clause_statements_with where_with head_with clause_with clauses_with block_with step read_at read kind_at is_mark is_word name_at number_at text_at truth_at root_at binder_at keyword_at is_even operator_at leads prefix_at negative_at unary_at range_at is_new_line assign_at assigns annotates opens closes goes_on ends is_bare label_at names_at closure_head
+shapes_are : map (λ (row : Toks × List ℕ). shape_of (read 100 100 body 0 row.0)) shapes ≡ map (λ (row : Toks × List ℕ). row.1) shapes
+unfolding fields_on path_from path_with typed_with let_parts_with let_case_with let_literal_with let_pattern_with let_patterns_with parts_with case_with bind_with literal_pattern_with pattern_with patterns_with pattern_step read_pattern_at read_pattern parenthesized_with implicit_with literal_at primary_with post_with prefix_with consume_with pre_with level_with next_with operator_with operators_with branches_with choice_with expression_with closure_with address_with given_with argument_with arguments_with all_arguments_with called_with call_with closing_with member_with calls_with bound_with let_with ignore_with discard_with else_with if_with while_with repeat_with upper_with lower_with for_with switch_with return_with assign_with evaluate_with simple_with statement_with sep_at separated_with statements_with ends_clause clause_statements_with where_with head_with clause_with clauses_with block_with step read_at read kind_at is_mark is_word name_at number_at text_at truth_at root_at binder_at keyword_at is_even operator_at leads prefix_at negative_at unary_at range_at is_new_line assign_at assigns annotates opens closes goes_on ends is_bare label_at closure_name_at names_at closure_head
 shapes_are = refl
 
 abbrev outcomes : List (Toks × ℕ)
@@ -129,18 +129,18 @@ outcomes =
     (tok (kind.Mark mark.OpenBrace) true true false ∷ tok (kind.Name (codes "f")) true true false ∷ tok (kind.Mark mark.OpenParen) true false true ∷ tok (kind.Name (codes "x")) true true false ∷ tok (kind.Mark mark.CloseParen) false true false ∷ tok (kind.Mark mark.CloseBrace) true true false ∷ [], 0) ∷
     []
 
-outcomes_are : map (λ (row : Toks × ℕ). outcome (read 100 body 0 row.0)) outcomes ≡ map (λ (row : Toks × ℕ). row.1) outcomes
-unfolding fields_on path_from path_with typed_with let_parts_with let_case_with let_literal_with let_pattern_with let_patterns_with parts_with case_with bind_with literal_pattern_with pattern_with patterns_with pattern_step read_pattern_at read_pattern parenthesized_with implicit_with literal_at primary_with post_with prefix_with consume_with pre_with level_with next_with operator_with operators_with branches_with choice_with expression_with closure_with address_with given_with argument_with arguments_with all_arguments_with called_with call_with closing_with member_with calls_with bound_with let_with ignore_with discard_with else_with if_with while_with repeat_with upper_with lower_with for_with switch_with return_with assign_with evaluate_with simple_with statement_with sep_at separated_with statements_with ends_clause clause_statements_with where_with head_with clause_with clauses_with block_with step read_at read kind_at is_mark is_word name_at number_at text_at truth_at root_at binder_at keyword_at is_even operator_at leads prefix_at negative_at unary_at range_at is_new_line assign_at assigns annotates opens closes goes_on ends is_bare label_at names_at closure_head
+outcomes_are : map (λ (row : Toks × ℕ). outcome (read 100 100 body 0 row.0)) outcomes ≡ map (λ (row : Toks × ℕ). row.1) outcomes
+unfolding fields_on path_from path_with typed_with let_parts_with let_case_with let_literal_with let_pattern_with let_patterns_with parts_with case_with bind_with literal_pattern_with pattern_with patterns_with pattern_step read_pattern_at read_pattern parenthesized_with implicit_with literal_at primary_with post_with prefix_with consume_with pre_with level_with next_with operator_with operators_with branches_with choice_with expression_with closure_with address_with given_with argument_with arguments_with all_arguments_with called_with call_with closing_with member_with calls_with bound_with let_with ignore_with discard_with else_with if_with while_with repeat_with upper_with lower_with for_with switch_with return_with assign_with evaluate_with simple_with statement_with sep_at separated_with statements_with ends_clause clause_statements_with where_with head_with clause_with clauses_with block_with step read_at read kind_at is_mark is_word name_at number_at text_at truth_at root_at binder_at keyword_at is_even operator_at leads prefix_at negative_at unary_at range_at is_new_line assign_at assigns annotates opens closes goes_on ends is_bare label_at closure_name_at names_at closure_head
 outcomes_are = refl
 
--- with 4 levels: a block, a statement, parentheses, a number; then the second parenthesis leaves none to the number
+-- with 4 nodes: a block, a statement, parentheses, a number; then the second parenthesis leaves none to the number
 abbrev levels : List (Toks × ℕ)
 levels =
     -- { (1) }
     (tok (kind.Mark mark.OpenBrace) true true false ∷ tok (kind.Mark mark.OpenParen) true false false ∷ tok (kind.Number 1) true true false ∷ tok (kind.Mark mark.CloseParen) false true false ∷ tok (kind.Mark mark.CloseBrace) true true false ∷ [], 0) ∷
     -- { ((1)) }
     (tok (kind.Mark mark.OpenBrace) true true false ∷ tok (kind.Mark mark.OpenParen) true false false ∷ tok (kind.Mark mark.OpenParen) true false false ∷ tok (kind.Number 1) true true false ∷ tok (kind.Mark mark.CloseParen) false true false ∷ tok (kind.Mark mark.CloseParen) false true false ∷ tok (kind.Mark mark.CloseBrace) true true false ∷ [], 2004) ∷
-    -- a pattern in the parentheses of another is a node
+    -- with 3 levels of patterns: a pattern in the parentheses of another is a level further
     -- { switch x { case .a(.b(_)): break } }
     (tok (kind.Mark mark.OpenBrace) true true false ∷ tok (kind.Word word.Switch) true true false ∷ tok (kind.Name (codes "x")) true true false ∷ tok (kind.Mark mark.OpenBrace) true true false ∷ tok (kind.Word word.Case) true true false ∷ tok (kind.Mark mark.Dot) true false false ∷ tok (kind.Name (codes "a")) false false false ∷ tok (kind.Mark mark.OpenParen) false false false ∷ tok (kind.Mark mark.Dot) false false false ∷ tok (kind.Name (codes "b")) false false false ∷ tok (kind.Mark mark.OpenParen) false false false ∷ tok (kind.Mark mark.Underscore) true true false ∷ tok (kind.Mark mark.CloseParen) false true false ∷ tok (kind.Mark mark.CloseParen) false true false ∷ tok (kind.Mark mark.Colon) false true false ∷ tok (kind.Word word.Break) true true false ∷ tok (kind.Mark mark.CloseBrace) true true false ∷ tok (kind.Mark mark.CloseBrace) true true false ∷ [], 0) ∷
     -- { switch x { case .a(_, .b(.c(_))): break } }
@@ -149,8 +149,8 @@ levels =
     (tok (kind.Mark mark.OpenBrace) true true false ∷ tok (kind.Word word.Switch) true true false ∷ tok (kind.Name (codes "x")) true true false ∷ tok (kind.Mark mark.OpenBrace) true true false ∷ tok (kind.Word word.Case) true true false ∷ tok (kind.Word word.Let) true true false ∷ tok (kind.Mark mark.Dot) true false false ∷ tok (kind.Name (codes "a")) false false false ∷ tok (kind.Mark mark.OpenParen) false false false ∷ tok (kind.Mark mark.Dot) false false false ∷ tok (kind.Name (codes "b")) false false false ∷ tok (kind.Mark mark.OpenParen) false false false ∷ tok (kind.Mark mark.Dot) false false false ∷ tok (kind.Name (codes "c")) false false false ∷ tok (kind.Mark mark.OpenParen) false false false ∷ tok (kind.Name (codes "y")) false false false ∷ tok (kind.Mark mark.CloseParen) false true false ∷ tok (kind.Mark mark.CloseParen) false true false ∷ tok (kind.Mark mark.CloseParen) false true false ∷ tok (kind.Mark mark.Colon) false true false ∷ tok (kind.Word word.Break) true true false ∷ tok (kind.Mark mark.CloseBrace) true true false ∷ tok (kind.Mark mark.CloseBrace) true true false ∷ [], 2008) ∷
     []
 
-levels_are : map (λ (row : Toks × ℕ). outcome (read 4 body 0 row.0)) levels ≡ map (λ (row : Toks × ℕ). row.1) levels
-unfolding fields_on path_from path_with typed_with let_parts_with let_case_with let_literal_with let_pattern_with let_patterns_with parts_with case_with bind_with literal_pattern_with pattern_with patterns_with pattern_step read_pattern_at read_pattern parenthesized_with implicit_with literal_at primary_with post_with prefix_with consume_with pre_with level_with next_with operator_with operators_with branches_with choice_with expression_with closure_with address_with given_with argument_with arguments_with all_arguments_with called_with call_with closing_with member_with calls_with bound_with let_with ignore_with discard_with else_with if_with while_with repeat_with upper_with lower_with for_with switch_with return_with assign_with evaluate_with simple_with statement_with sep_at separated_with statements_with ends_clause clause_statements_with where_with head_with clause_with clauses_with block_with step read_at read kind_at is_mark is_word name_at number_at text_at truth_at root_at binder_at keyword_at is_even operator_at leads prefix_at negative_at unary_at range_at is_new_line assign_at assigns annotates opens closes goes_on ends is_bare label_at names_at closure_head
+levels_are : map (λ (row : Toks × ℕ). outcome (read 4 3 body 0 row.0)) levels ≡ map (λ (row : Toks × ℕ). row.1) levels
+unfolding fields_on path_from path_with typed_with let_parts_with let_case_with let_literal_with let_pattern_with let_patterns_with parts_with case_with bind_with literal_pattern_with pattern_with patterns_with pattern_step read_pattern_at read_pattern parenthesized_with implicit_with literal_at primary_with post_with prefix_with consume_with pre_with level_with next_with operator_with operators_with branches_with choice_with expression_with closure_with address_with given_with argument_with arguments_with all_arguments_with called_with call_with closing_with member_with calls_with bound_with let_with ignore_with discard_with else_with if_with while_with repeat_with upper_with lower_with for_with switch_with return_with assign_with evaluate_with simple_with statement_with sep_at separated_with statements_with ends_clause clause_statements_with where_with head_with clause_with clauses_with block_with step read_at read kind_at is_mark is_word name_at number_at text_at truth_at root_at binder_at keyword_at is_even operator_at leads prefix_at negative_at unary_at range_at is_new_line assign_at assigns annotates opens closes goes_on ends is_bare label_at closure_name_at names_at closure_head
 levels_are = refl
 
 -- ---- files
@@ -177,6 +177,6 @@ files =
     (tok (kind.Word word.Func) true true false ∷ tok (kind.Name (codes "f")) true false false ∷ tok (kind.Mark mark.OpenParen) false false false ∷ tok (kind.Name (codes "x")) true true false ∷ tok (kind.Name (codes "y")) true true false ∷ tok (kind.Name (codes "z")) true true false ∷ tok (kind.Mark mark.Colon) false true false ∷ tok (kind.Name (codes "Int")) true true false ∷ tok (kind.Mark mark.CloseParen) false true false ∷ tok (kind.Mark mark.OpenBrace) true true false ∷ tok (kind.Mark mark.CloseBrace) true true false ∷ tok (kind.Name (codes "main")) true false true ∷ tok (kind.Mark mark.OpenParen) false true false ∷ tok (kind.Mark mark.CloseParen) true true false ∷ [], 1009) ∷
     []
 
-files_are : map (λ (row : Toks × ℕ). file_outcome (read_file 100 row.0)) files ≡ map (λ (row : Toks × ℕ). row.1) files
-unfolding fields_on path_from path_with typed_with let_parts_with let_case_with let_literal_with let_pattern_with let_patterns_with parts_with case_with bind_with literal_pattern_with pattern_with patterns_with pattern_step read_pattern_at read_pattern parenthesized_with implicit_with literal_at primary_with post_with prefix_with consume_with pre_with level_with next_with operator_with operators_with branches_with choice_with expression_with closure_with address_with given_with argument_with arguments_with all_arguments_with called_with call_with closing_with member_with calls_with bound_with let_with ignore_with discard_with else_with if_with while_with repeat_with upper_with lower_with for_with switch_with return_with assign_with evaluate_with simple_with statement_with sep_at separated_with statements_with ends_clause clause_statements_with where_with head_with clause_with clauses_with block_with step read_at read kind_at is_mark is_word name_at number_at text_at truth_at root_at binder_at keyword_at is_even operator_at leads prefix_at negative_at unary_at range_at is_new_line assign_at assigns annotates opens closes goes_on ends is_bare label_at names_at closure_head wanted result_with returns_with moded_with inner_with arrow_with type_with labelled_with parameter_with parameters_with function_body_with function_with method_with field_with initializer_with deinitializer_with struct_member_with name_with item_with cases_with enum_member_with noncopyable_with members_with named_with declaration_with end_with main_with is_main read_file listed_at listed_on bracketed_with separated_at separated_on passing_at changing_at is_named
+files_are : map (λ (row : Toks × ℕ). file_outcome (read_file 100 100 row.0)) files ≡ map (λ (row : Toks × ℕ). row.1) files
+unfolding fields_on path_from path_with typed_with let_parts_with let_case_with let_literal_with let_pattern_with let_patterns_with parts_with case_with bind_with literal_pattern_with pattern_with patterns_with pattern_step read_pattern_at read_pattern parenthesized_with implicit_with literal_at primary_with post_with prefix_with consume_with pre_with level_with next_with operator_with operators_with branches_with choice_with expression_with closure_with address_with given_with argument_with arguments_with all_arguments_with called_with call_with closing_with member_with calls_with bound_with let_with ignore_with discard_with else_with if_with while_with repeat_with upper_with lower_with for_with switch_with return_with assign_with evaluate_with simple_with statement_with sep_at separated_with statements_with ends_clause clause_statements_with where_with head_with clause_with clauses_with block_with step read_at read kind_at is_mark is_word name_at number_at text_at truth_at root_at binder_at keyword_at is_even operator_at leads prefix_at negative_at unary_at range_at is_new_line assign_at assigns annotates opens closes goes_on ends is_bare label_at closure_name_at names_at closure_head wanted result_with returns_with moded_with inner_with arrow_with type_with labelled_with parameter_with parameters_with function_body_with function_with method_with field_with initializer_with deinitializer_with struct_member_with name_with item_with cases_with enum_member_with noncopyable_with members_with named_with declaration_with end_with main_with is_main read_file listed_at listed_on bracketed_with separated_at separated_on passing_at changing_at is_named
 files_are = refl

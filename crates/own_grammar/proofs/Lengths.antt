@@ -1,11 +1,12 @@
 -- What is spelled takes tokens.
 use Rattle.std.proofs.Common.{◌≡◌, ℕ, suc, ◌≤◌, ◌<◌, Bool, true, false, List, [], ◌∷◌, length, Option, Some, None, inl, inr, refl, ap, arith}
 use Rattle.own_tree.specs.declared.token.Kind.{Kind}
+use Rattle.own_tree.specs.declared.tree.ClosureName.{ClosureName}
 use Rattle.own_tree.specs.declared.tree.Name.{Name}
 use Rattle.own_tree.specs.declared.tree.Path.{Path}
 use Rattle.own_tree.specs.Source.{LetPat, let_any, let_bind, let_case, let_number, let_truth, LetPats, no_let_pats, let_pat, Pat, any, bind, bind_case, on_case, on_number, on_truth, Pats, no_pats, pat}
 use Rattle.own_tree.specs.declared.span.Span.{Span}
-use Rattle.own_grammar.specs.Tests.{Toks, after, kind_at, binder_at, names_at, name_then, names_or, closure_head}
+use Rattle.own_grammar.specs.Tests.{Toks, after, kind_at, closure_name_at, names_at, name_then, names_or, closure_head}
 use Rattle.own_grammar.specs.Spells.{Fields, SpellsPath, Typed, SpellsNumber, SpellsLetPat, SpellsLetPats, SpellsPat, SpellsPats, Sep, Labels}
 use Rattle.own_grammar.proofs.Facts.{number_kind, name_kind, truth_kind, root_kind, negative_kind}
 
@@ -73,7 +74,7 @@ mutual
 -- ---- the names of a closure
 
 abbrev Head : Type 0
-Head = List (Option Name) × Toks
+Head = List ClosureName × Toks
 
 some_is : (x y : Head) → Some x ≡ Some y → x.1 ≡ y.1
 some_is x y e = ap (λ (r : Head). r.1) same
@@ -81,20 +82,20 @@ some_is x y e = ap (λ (r : Head). r.1) same
     same : x ≡ y
     same = cc
 
-names_le : (ts us : Toks) (ns : List (Option Name)) → names_at ts ≡ Some (ns, us) → length us ≤ length ts
+names_le : (ts us : Toks) (ns : List ClosureName) → names_at ts ≡ Some (ns, us) → length us ≤ length ts
 unfolding names_at
 names_le [] us ns e = absurd cc
 names_le (t ∷ []) us ns e = absurd cc
-names_le (t ∷ u ∷ ts) us ns e = by_parts (binder_at (t ∷ u ∷ ts)) _ _ (names_at ts) e (λ ms. names_le ts us ms)
+names_le (t ∷ u ∷ ts) us ns e = by_parts (closure_name_at (t ∷ u ∷ ts)) _ _ (names_at ts) e (λ ms. names_le ts us ms)
   where
-    by_parts : (b : Option (Option Name)) (comma ends : Bool) (more : Option (List (Option Name) × Toks)) → name_then b comma ends more ts ≡ Some (ns, us) → ((ms : List (Option Name)) → more ≡ Some (ms, us) → length us ≤ length ts) → length us ≤ suc (suc (length ts))
+    by_parts : (b : Option ClosureName) (comma ends : Bool) (more : Option (List ClosureName × Toks)) → name_then b comma ends more ts ≡ Some (ns, us) → ((ms : List ClosureName) → more ≡ Some (ms, us) → length us ≤ length ts) → length us ≤ suc (suc (length ts))
     by_parts None comma ends more h ih = absurd cc
     by_parts (Some n) true ends None h ih = absurd cc
     by_parts (Some n) true ends (Some r) h ih = (let same = some_is (n ∷ r.0, r.1) (ns, us) h in let a = ih r.0 (rw (← same) refl) in omega arith)
     by_parts (Some n) false true more h ih = (let same = some_is (n ∷ [], ts) (ns, us) h in rw (← same) (omega arith))
     by_parts (Some n) false false more h ih = absurd cc
 
-head_by : (ts : Toks) (o : Option (List (Option Name) × Toks)) → names_at ts ≡ o → length (names_or o ts).1 ≤ length ts
+head_by : (ts : Toks) (o : Option (List ClosureName × Toks)) → names_at ts ≡ o → length (names_or o ts).1 ≤ length ts
 head_by ts None e = omega arith
 head_by ts (Some r) e = names_le ts r.1 r.0 e
 

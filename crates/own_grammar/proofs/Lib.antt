@@ -1,6 +1,7 @@
 pub mod Facts
 pub mod Edges
 pub mod Steps
+pub mod Within
 pub mod Lists
 pub mod Lengths
 pub mod Paths

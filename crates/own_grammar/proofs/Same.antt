@@ -24,7 +24,7 @@ use Rattle.own_grammar.proofs.Shorter.{operator_short, short_e, short_g, short_a
 use Rattle.own_grammar.proofs.Sound.{Sound, sound_primary_short, sound_level, sound_expression, sound_closure, sound_argument, sound_all_arguments, sound_separated, sound_head, sound_clause, sound_at}
 use Rattle.own_grammar.proofs.Steps.{Near, same, near_bind, near_cond, near_some, near_limit, equal}
 
-module _ (loose : Type 0) (most most' : ℕ) (limits : (most ≡ most') ⊎ (loose × (most ≤ most'))) (k k' : Reader) (snd : Sound most k) (n : ℕ) (agree : (g : Goal) (d : ℕ) (ts : Toks) → length ts < n → Near loose (k g d ts) (k' g d ts)) where
+module _ (loose : Type 0) (most most' levels levels' : ℕ) (some : 0 < levels) (limits : (most ≡ most') ⊎ (loose × (most ≤ most'))) (fewer : (levels ≡ levels') ⊎ (loose × (levels ≤ levels'))) (k k' : Reader) (snd : Sound most levels k) (n : ℕ) (agree : (g : Goal) (d : ℕ) (ts : Toks) → length ts < n → Near loose (k g d ts) (k' g d ts)) where
   abbrev Alike : {A : Type 0} → Result A Fault → Result A Fault → Type 0
   Alike r r' = Near loose r r'
 
@@ -39,7 +39,7 @@ module _ (loose : Type 0) (most most' : ℕ) (limits : (most ≡ most') ⊎ (loo
 
   near_post : (tight : Bool) (context : Context) (d : ℕ) (ts : Toks) → d < most → length ts ≤ n → Alike (post_with k tight context d ts) (post_with k' tight context d ts)
   unfolding post_with
-  near_post tight context d ts lt le = near_bind loose _ _ _ _ (near_primary tight d ts le) (λ x e. agree (calls_on context x.0) d x.1 (let a = short_e x.0 tight context ts x.1 (sound_primary_short most k snd tight context d ts x lt e) in omega arith))
+  near_post tight context d ts lt le = near_bind loose _ _ _ _ (near_primary tight d ts le) (λ x e. agree (calls_on context x.0) d x.1 (let a = short_e x.0 tight context ts x.1 (sound_primary_short most levels some k snd tight context d ts x lt e) in omega arith))
 
   near_prefix : (o : PrefixOperator) (context : Context) (d : ℕ) (ts : Toks) (tight : Bool) → unary_at tight ts ≡ Some o → length ts ≤ n → Alike (prefix_with k o context d ts) (prefix_with k' o context d ts)
   unfolding prefix_with
@@ -57,7 +57,7 @@ module _ (loose : Type 0) (most most' : ℕ) (limits : (most ≡ most') ⊎ (loo
   near_level : (j : ℕ) (context : Context) (d : ℕ) (ts : Toks) → length ts ≤ n → Alike (level_with most k j context d ts) (level_with most' k' j context d ts)
   unfolding level_with
   near_level zero context d ts le = near_pre false context d ts le
-  near_level (suc j) context d ts le = near_bind loose _ _ _ _ (near_level j context d ts le) (λ x e. agree (operators_on j context x.0) d x.1 (let p = sound_level most k snd j context d ts x e in let a = short_e x.0 false context ts x.1 p.0 in omega arith))
+  near_level (suc j) context d ts le = near_bind loose _ _ _ _ (near_level j context d ts le) (λ x e. agree (operators_on j context x.0) d x.1 (let p = sound_level most levels some k snd j context d ts x e in let a = short_e x.0 false context ts x.1 p.0 in omega arith))
 
   near_next : (c : Bool) (j : ℕ) (context : Context) (d : ℕ) (e : Exp) (ts : Toks) → length ts < n → Alike (next_with k c j context d e ts) (next_with k' c j context d e ts)
   unfolding next_with
@@ -68,7 +68,7 @@ module _ (loose : Type 0) (most most' : ℕ) (limits : (most ≡ most') ⊎ (loo
   unfolding operators_with operator_with
   near_operators j context e d ts le = near_some loose (operator_at ts) _ _ _ _ (λ o is. near_cond loose (eqb (level o) (suc j)) _ _ _ _
       (λ y. near_limit loose most most' limits (d + nest e) _ _ _ (λ lt. near_bind loose _ _ _ _ (near_level j context (d + 1) (after ts) (let a = operator_short ts o is in omega arith))
-      (λ x r. near_next (chains (suc j)) j context d _ x.1 (let p = sound_level most k snd j context (d + 1) (after ts) x r in let a = short_e x.0 false context (after ts) x.1 p.0 in let b = operator_short ts o is in omega arith))))
+      (λ x r. near_next (chains (suc j)) j context d _ x.1 (let p = sound_level most levels some k snd j context (d + 1) (after ts) x r in let a = short_e x.0 false context (after ts) x.1 p.0 in let b = operator_short ts o is in omega arith))))
       (λ y. same refl)) (λ y. same refl)
 
   near_branches : (context : Context) (d : ℕ) (c : Exp) (ts : Toks) → length ts < n → Alike (branches_with k context d c ts) (branches_with k' context d c ts)
@@ -79,7 +79,7 @@ module _ (loose : Type 0) (most most' : ℕ) (limits : (most ≡ most') ⊎ (loo
   near_expression : (context : Context) (d : ℕ) (ts : Toks) → length ts ≤ n → Alike (expression_with most k context d ts) (expression_with most' k' context d ts)
   unfolding expression_with choice_with
   near_expression context d ts le = near_bind loose _ _ _ _ (near_level 5 context d ts le) (λ x r. near_cond loose (is_mark mark.Question x.1) _ _ _ _
-      (λ y. near_limit loose most most' limits (d + nest x.0) _ _ _ (λ lt. near_branches context d x.0 (after x.1) (let p = sound_level most k snd 5 context d ts x r in let a = short_e x.0 false context ts x.1 p.0 in let b = after_le x.1 in omega arith))) (λ y. same refl))
+      (λ y. near_limit loose most most' limits (d + nest x.0) _ _ _ (λ lt. near_branches context d x.0 (after x.1) (let p = sound_level most levels some k snd 5 context d ts x r in let a = short_e x.0 false context ts x.1 p.0 in let b = after_le x.1 in omega arith))) (λ y. same refl))
 
   -- ---- closures, arguments and calls
 
@@ -101,7 +101,7 @@ module _ (loose : Type 0) (most most' : ℕ) (limits : (most ≡ most') ⊎ (loo
   near_arguments : (xs : List Arg) (d : ℕ) (ts : Toks) → length ts ≤ n → Alike (arguments_with most k xs d ts) (arguments_with most' k' xs d ts)
   unfolding arguments_with
   near_arguments xs d ts le = near_bind loose _ _ _ _ (near_argument d ts le) (λ x r. near_cond loose (is_mark mark.Comma x.1) _ _ _ _
-      (λ y. agree (arguments_on (xs ++ x.0 ∷ [])) d (after x.1) (let p = sound_argument most k snd d ts x r in let a = short_g x.0.1 p.0 x.1 p.2 in let b = labels_le x.0.0 ts p.0 p.1 in let c = after_le x.1 in omega arith)) (λ y. same refl))
+      (λ y. agree (arguments_on (xs ++ x.0 ∷ [])) d (after x.1) (let p = sound_argument most levels some k snd d ts x r in let a = short_g x.0.1 p.0 x.1 p.2 in let b = labels_le x.0.0 ts p.0 p.1 in let c = after_le x.1 in omega arith)) (λ y. same refl))
 
   near_all_arguments : (d : ℕ) (ts : Toks) → length ts ≤ n → Alike (all_arguments_with most k d ts) (all_arguments_with most' k' d ts)
   unfolding all_arguments_with
@@ -112,18 +112,18 @@ module _ (loose : Type 0) (most most' : ℕ) (limits : (most ≡ most') ⊎ (loo
   near_called context f d xs ts le = near_cond loose (is_mark mark.CloseParen ts) _ _ _ _ (λ rp. (let a = after_short ts _ (mark_kind mark.CloseParen ts rp) in
       near_cond loose (closes context (after ts)) _ _ _ _
       (λ y. (let lb = at_mark mark.OpenBrace (after ts) _ (closes_kind context (after ts) y) in
-      near_bind loose _ _ _ _ (near_closure (d + 1) (after ts) (omega arith) lb) (λ x r. agree (calls_on context (call_closing (till (exp_span f) (clo_span x.0)) f (args_of xs) x.0)) d x.1 (let p = sound_closure most k snd (d + 1) (after ts) x lb r in let b = short_k x.0 (after ts) x.1 p.0 in omega arith))))
+      near_bind loose _ _ _ _ (near_closure (d + 1) (after ts) (omega arith) lb) (λ x r. agree (calls_on context (call_closing (till (exp_span f) (clo_span x.0)) f (args_of xs) x.0)) d x.1 (let p = sound_closure most levels some k snd (d + 1) (after ts) x lb r in let b = short_k x.0 (after ts) x.1 p.0 in omega arith))))
       (λ y. agree (calls_on context (call (till (exp_span f) (here ts)) f (args_of xs))) d (after ts) (omega arith)))) (λ y. same refl)
 
   near_call : (context : Context) (f : Exp) (d : ℕ) (ts : Toks) → length ts ≤ n → Alike (call_with most k context f d ts) (call_with most' k' context f d ts)
   unfolding call_with
   near_call context f d ts le = near_limit loose most most' limits (d + nest f) _ _ _ (λ lt. near_bind loose _ _ _ _ (near_all_arguments d (after ts) (let a = after_le ts in omega arith))
-      (λ x r. near_called context f d x.0 x.1 (let p = sound_all_arguments most k snd d (after ts) x (omega (arith, lt)) r in let a = short_a p.0 (after ts) x.1 p.2 in let b = after_le ts in omega arith)))
+      (λ x r. near_called context f d x.0 x.1 (let p = sound_all_arguments most levels some k snd d (after ts) x (omega (arith, lt)) r in let a = short_a p.0 (after ts) x.1 p.2 in let b = after_le ts in omega arith)))
 
   near_closing : (context : Context) (f : Exp) (d : ℕ) (ts : Toks) → length ts ≤ n → closes context ts ≡ true → Alike (closing_with most k context f d ts) (closing_with most' k' context f d ts)
   unfolding closing_with
   near_closing context f d ts le c = (let lb = at_mark mark.OpenBrace ts _ (closes_kind context ts c) in near_limit loose most most' limits (d + nest f) _ _ _ (λ lt. near_bind loose _ _ _ _ (near_closure (d + 1) ts le lb)
-      (λ x r. agree (calls_on context (call_closure (till (exp_span f) (clo_span x.0)) f x.0)) d x.1 (let p = sound_closure most k snd (d + 1) ts x lb r in let a = short_k x.0 ts x.1 p.0 in omega arith))))
+      (λ x r. agree (calls_on context (call_closure (till (exp_span f) (clo_span x.0)) f x.0)) d x.1 (let p = sound_closure most levels some k snd (d + 1) ts x lb r in let a = short_k x.0 ts x.1 p.0 in omega arith))))
 
   near_member : (context : Context) (f : Exp) (d : ℕ) (ts : Toks) → length ts ≤ n → is_mark mark.Dot ts ≡ true → Alike (member_with most k context f d ts) (member_with most' k' context f d ts)
   unfolding member_with
@@ -195,7 +195,7 @@ module _ (loose : Type 0) (most most' : ℕ) (limits : (most ≡ most') ⊎ (loo
   near_evaluate : (d : ℕ) (ts : Toks) → length ts ≤ n → Alike (evaluate_with most k d ts) (evaluate_with most' k' d ts)
   unfolding evaluate_with assign_with
   near_evaluate d ts le = near_bind loose _ _ _ _ (near_expression Plain (d + 1) ts le) (λ x r. near_some loose (assign_at x.1) _ _ _ _
-      (λ o e. near_some loose (path_in x.0) _ _ _ _ (λ p e. near_bind loose _ _ _ _ (agree (expression Plain) (d + 1) (after x.1) (let p = sound_expression most k snd Plain (d + 1) ts x r in let a = short_e x.0 false Plain ts x.1 p.0 in let b = after_le x.1 in omega arith)) (λ y r. same refl)) (λ e. same refl))
+      (λ o e. near_some loose (path_in x.0) _ _ _ _ (λ p e. near_bind loose _ _ _ _ (agree (expression Plain) (d + 1) (after x.1) (let p = sound_expression most levels some k snd Plain (d + 1) ts x r in let a = short_e x.0 false Plain ts x.1 p.0 in let b = after_le x.1 in omega arith)) (λ y r. same refl)) (λ e. same refl))
       (λ e. same refl))
 
   near_simple : (d : ℕ) (ts : Toks) → length ts ≤ n → Alike (simple_with most k d ts) (simple_with most' k' d ts)
@@ -218,7 +218,7 @@ module _ (loose : Type 0) (most most' : ℕ) (limits : (most ≡ most') ⊎ (loo
   near_separated d ts le = near_bind loose _ _ _ _ (near_statement d ts le) (λ x r. same refl)
 
   separated_short : (d : ℕ) (ts : Toks) (x : Stm × Toks) → separated_with most k d ts ≡ Ok x → length x.1 < length ts
-  separated_short d ts x r = (let p = sound_separated most k snd d ts x r in let a = short_s x.0 ts p.0 p.1 in let b = sep_le (is_return x.0) p.0 x.1 p.2 in omega arith)
+  separated_short d ts x r = (let p = sound_separated most levels some k snd d ts x r in let a = short_s x.0 ts p.0 p.1 in let b = sep_le (is_return x.0) p.0 x.1 p.2 in omega arith)
 
   near_statements : (xs : List Stm) (d : ℕ) (ts : Toks) → length ts ≤ n → Alike (statements_with most k xs d ts) (statements_with most' k' xs d ts)
   unfolding statements_with
@@ -238,26 +238,26 @@ module _ (loose : Type 0) (most most' : ℕ) (limits : (most ≡ most') ⊎ (loo
   near_where (p ∷ []) d ts lt = near_cond loose (is_word word.Where ts) _ _ _ _ (λ y. near_bind loose _ _ _ _ (agree (expression Plain) d (after ts) (let a = after_le ts in omega arith)) (λ x r. same refl)) (λ y. same refl)
   near_where (p ∷ q ∷ ps) d ts lt = same refl
 
-  near_head : (d : ℕ) (ts : Toks) → length ts ≤ n → Alike (head_with most k d ts) (head_with most' k' d ts)
+  near_head : (d : ℕ) (ts : Toks) → length ts ≤ n → Alike (head_with levels k d ts) (head_with levels' k' d ts)
   unfolding head_with
-  near_head d ts le = near_cond loose (is_word word.Case ts) _ _ _ _ (λ y. near_bind loose (read_pattern most (patterns_on []) d (after ts)) (read_pattern most' (patterns_on []) d (after ts)) _ _ (pats_near loose most most' limits d (after ts))
-      (λ x r. near_where x.0 d x.1 (let p = pats_sound most d (after ts) x r in let a = pats_short (pat p.0 p.1) (after ts) x.1 p.3 in let b = after_short ts _ (word_kind word.Case ts y) in omega arith))) (λ y. same refl)
+  near_head d ts le = near_cond loose (is_word word.Case ts) _ _ _ _ (λ y. near_bind loose (read_pattern levels (patterns_on []) 1 (after ts)) (read_pattern levels' (patterns_on []) 1 (after ts)) _ _ (pats_near loose levels levels' fewer 1 (after ts))
+      (λ x r. near_where x.0 d x.1 (let p = pats_sound levels 1 (after ts) x r in let a = pats_short (pat p.0 p.1) (after ts) x.1 p.3 in let b = after_short ts _ (word_kind word.Case ts y) in omega arith))) (λ y. same refl)
 
-  near_clause : (d : ℕ) (ts : Toks) → length ts ≤ n → Alike (clause_with most k d ts) (clause_with most' k' d ts)
+  near_clause : (d : ℕ) (ts : Toks) → length ts ≤ n → Alike (clause_with levels k d ts) (clause_with levels' k' d ts)
   unfolding clause_with
   near_clause d ts le = near_bind loose _ _ _ _ (near_head d ts le) (λ x r. near_cond loose (is_mark mark.Colon x.1) _ _ _ _
-      (λ y. near_bind loose _ _ _ _ (agree (clause_on []) d (after x.1) (let p = sound_head most k snd d ts x r in let a = short_h x.0 ts x.1 p.0 in let b = after_le x.1 in omega arith)) (λ x r. same refl)) (λ y. same refl))
+      (λ y. near_bind loose _ _ _ _ (agree (clause_on []) d (after x.1) (let p = sound_head most levels some k snd d ts x r in let a = short_h x.0 ts x.1 p.0 in let b = after_le x.1 in omega arith)) (λ x r. same refl)) (λ y. same refl))
 
-  near_clauses : (xs : List Cla) (d : ℕ) (ts : Toks) → length ts ≤ n → Alike (clauses_with most k xs d ts) (clauses_with most' k' xs d ts)
+  near_clauses : (xs : List Cla) (d : ℕ) (ts : Toks) → length ts ≤ n → Alike (clauses_with levels k xs d ts) (clauses_with levels' k' xs d ts)
   unfolding clauses_with
   near_clauses xs d ts le = near_cond loose (is_mark mark.CloseBrace ts) _ _ _ _ (λ y. same refl) (λ y. near_bind loose _ _ _ _ (near_clause d ts le)
-      (λ x r. agree (clauses_on (xs ++ x.0 ∷ [])) d x.1 (let p = sound_clause most k snd d ts x r in let a = short_h x.0.1 ts p.0 p.1 in let b = after_le p.0 in let c = short_n x.0.2 (after p.0) x.1 p.3 in omega arith)))
+      (λ x r. agree (clauses_on (xs ++ x.0 ∷ [])) d x.1 (let p = sound_clause most levels some k snd d ts x r in let a = short_h x.0.1 ts p.0 p.1 in let b = after_le p.0 in let c = short_n x.0.2 (after p.0) x.1 p.3 in omega arith)))
 
   near_block : (d : ℕ) (ts : Toks) → length ts ≤ n → Alike (block_with most k d ts) (block_with most' k' d ts)
   unfolding block_with
   near_block d ts le = near_limit loose most most' limits d _ _ _ (λ lt. near_cond loose (is_mark mark.OpenBrace ts) _ _ _ _ (λ lb. near_bind loose _ _ _ _ (agree (statements_on []) (d + 1) (after ts) (let a = after_short ts _ (mark_kind mark.OpenBrace ts lb) in omega arith)) (λ x r. same refl)) (λ y. same refl))
 
-  near_step : (g : Goal) (d : ℕ) (ts : Toks) → length ts ≤ n → Alike (step most k g d ts) (step most' k' g d ts)
+  near_step : (g : Goal) (d : ℕ) (ts : Toks) → length ts ≤ n → Alike (step most levels k g d ts) (step most' levels' k' g d ts)
   unfolding step
   near_step (expression context) d ts le = near_expression context d ts le
   near_step (operand context) d ts le = near_pre true context d ts le
@@ -272,26 +272,30 @@ module _ (loose : Type 0) (most most' : ℕ) (limits : (most ≡ most') ⊎ (loo
 
 -- ---- the fuel does not matter
 
-fuel_same : (most f f' : ℕ) (g : Goal) (d : ℕ) (ts : Toks) → length ts < f → length ts < f' → read_at most f g d ts ≡ read_at most f' g d ts
+fuel_same : (most levels : ℕ) → 0 < levels → (f f' : ℕ) (g : Goal) (d : ℕ) (ts : Toks) → length ts < f → length ts < f' → read_at most levels f g d ts ≡ read_at most levels f' g d ts
 unfolding read_at
-fuel_same most zero f' g d ts lf lf' = absurd (omega arith)
-fuel_same most (suc f) zero g d ts lf lf' = absurd (omega arith)
-fuel_same most (suc f) (suc f') g d ts lf lf' =
-    equal _ _ (near_step ⊥ most most (inl refl) (read_at most f) (read_at most f') (sound_at most f) (length ts) (λ g' d' us lt. same (fuel_same most f f' g' d' us (omega arith) (omega arith))) g d ts (omega arith))
+fuel_same most levels some zero f' g d ts lf lf' = absurd (omega arith)
+fuel_same most levels some (suc f) zero g d ts lf lf' = absurd (omega arith)
+fuel_same most levels some (suc f) (suc f') g d ts lf lf' =
+    equal _ _ (near_step ⊥ most most levels levels some (inl refl) (inl refl) (read_at most levels f) (read_at most levels f') (sound_at most levels some f) (length ts)
+    (λ g' d' us lt. same (fuel_same most levels some f f' g' d' us (omega arith) (omega arith))) g d ts (omega arith))
 
 -- One step reads, and the rest is read by the whole.
-pub read_is : (most : ℕ) (g : Goal) (d : ℕ) (ts : Toks) → read most g d ts ≡ step most (read most) g d ts
+pub read_is : (most levels : ℕ) → 0 < levels → (g : Goal) (d : ℕ) (ts : Toks) → read most levels g d ts ≡ step most levels (read most levels) g d ts
 unfolding read read_at
-read_is most g d ts =
-    equal _ _ (near_step ⊥ most most (inl refl) (read_at most (length ts)) (read most) (sound_at most (length ts)) (length ts) (λ g' d' us lt. same (fuel_same most (length ts) (suc (length us)) g' d' us lt (omega arith))) g d ts (omega arith))
+read_is most levels some g d ts =
+    equal _ _ (near_step ⊥ most most levels levels some (inl refl) (inl refl) (read_at most levels (length ts)) (read most levels) (sound_at most levels some (length ts)) (length ts)
+    (λ g' d' us lt. same (fuel_same most levels some (length ts) (suc (length us)) g' d' us lt (omega arith))) g d ts (omega arith))
 
--- ---- a larger limit changes nothing but for Depth
+-- ---- larger limits change nothing but for Depth
 
-limit_at : (most most' f : ℕ) (g : Goal) (d : ℕ) (ts : Toks) → most ≤ most' → Near (Unit {0}) (read_at most f g d ts) (read_at most' f g d ts)
+limit_at : (most most' levels levels' : ℕ) → 0 < levels → most ≤ most' → levels ≤ levels' → (f : ℕ) (g : Goal) (d : ℕ) (ts : Toks) → Near (Unit {0}) (read_at most levels f g d ts) (read_at most' levels' f g d ts)
 unfolding read_at
-limit_at most most' zero g d ts le = same refl
-limit_at most most' (suc f) g d ts le = near_step (Unit {0}) most most' (inr (tt, le)) (read_at most f) (read_at most' f) (sound_at most f) (length ts) (λ g' d' us lt. limit_at most most' f g' d' us le) g d ts (omega arith)
+limit_at most most' levels levels' some le few zero g d ts = same refl
+limit_at most most' levels levels' some le few (suc f) g d ts =
+    near_step (Unit {0}) most most' levels levels' some (inr (tt, le)) (inr (tt, few)) (read_at most levels f) (read_at most' levels' f) (sound_at most levels some f) (length ts)
+    (λ g' d' us lt. limit_at most most' levels levels' some le few f g' d' us) g d ts (omega arith)
 
-pub limit_same : (most most' : ℕ) (g : Goal) (d : ℕ) (ts : Toks) → most ≤ most' → Near (Unit {0}) (read most g d ts) (read most' g d ts)
+pub limit_same : (most most' levels levels' : ℕ) → 0 < levels → most ≤ most' → levels ≤ levels' → (g : Goal) (d : ℕ) (ts : Toks) → Near (Unit {0}) (read most levels g d ts) (read most' levels' g d ts)
 unfolding read
-limit_same most most' g d ts le = limit_at most most' (suc (length ts)) g d ts le
+limit_same most most' levels levels' some le few g d ts = limit_at most most' levels levels' some le few (suc (length ts)) g d ts

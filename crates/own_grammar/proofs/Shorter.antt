@@ -1,5 +1,6 @@
 -- An expression, a statement, a block that is spelled takes tokens.
 use Rattle.std.proofs.Common.{◌≡◌, ◌≤◌, ◌<◌, Bool, true, false, List, length, Option, Some, inl, inr, ap, arith}
+use Rattle.own_tree.specs.declared.tree.ClosureName.{ClosureName}
 use Rattle.own_tree.specs.declared.tree.Name.{Name}
 use Rattle.own_tree.specs.declared.tree.BinaryOperator.{BinaryOperator}
 use Rattle.own_tree.specs.Source.{Exp, number, text, truth, path, implicit_member, parenthesized, consumed, prefix, binary, choice, member, call, call_closing, call_closure, Given, value, address, closing, Args, no_args, arg, Clo, closure, Stm, let_in, declare, assign, ignore, discard_self, if_then, if_else, else_if, loop_while, loop_repeat, loop_for, switch, leave, go_on, return_none, return_value, evaluate, Stms, no_stms, stm, When, case_of, case_where, default, Clauses, no_clauses, clause, Blk, block}
@@ -16,8 +17,8 @@ use Rattle.own_grammar.proofs.Facts.{operator_kind, keyword_kind}
 pub operator_short : (ts : Toks) (o : BinaryOperator) → operator_at ts ≡ Some o → length (after ts) < length ts
 operator_short ts o e = after_short ts _ (operator_kind ts o e)
 
-head_to : (ts start : Toks) (ns : List (Option Name)) → closure_head ts ≡ (ns, start) → length start ≤ length ts
-head_to ts start ns e = let a = head_le ts in let same : (closure_head ts).1 ≡ start = ap (λ (r : List (Option Name) × Toks). r.1) e in rw (← same) a
+head_to : (ts start : Toks) (ns : List ClosureName) → closure_head ts ≡ (ns, start) → length start ≤ length ts
+head_to ts start ns e = let a = head_le ts in let same : (closure_head ts).1 ≡ start = ap (λ (r : List ClosureName × Toks). r.1) e in rw (← same) a
 
 ignored_le : (t : Option Name) (from mid : Toks) → Ignored t from mid → length mid ≤ length from
 ignored_le t from mid (inl (k, none, eq, at_)) = rw at_ (after_le from)

@@ -25,6 +25,7 @@ use Rattle.own_tree.specs.Source.{Blk, Fun, Member, field, initializer, deinitia
 use Rattle.own_grammar.specs.declared.Context.TheVariants.{Plain}
 use Rattle.own_grammar.specs.Tests.{Toks, after, here, till, kind_at, name_at, keyword_at, opens}
 use Rattle.own_grammar.specs.Nesting.{blk_span, nest_blk}
+use Rattle.own_grammar.specs.Levels.{levels_blk}
 use Rattle.own_grammar.specs.Spells.{SpellsB}
 use Rattle.own_grammar.specs.Lists.{Listed, Bracketed, Separated, greatest}
 
@@ -204,3 +205,21 @@ nest_declaration (function f) = nest_blk f.body
 -- the greatest nesting of a body
 abbrev pub nest_file : File → ℕ
 nest_file f = greatest nest_declaration f.declarations
+
+-- ---- levels of patterns
+
+abbrev pub levels_member : Member → ℕ
+levels_member (field f) = 0
+levels_member (initializer s ps b) = levels_blk b
+levels_member (deinitializer s b) = levels_blk b
+levels_member (method s m f) = levels_blk f.body
+levels_member (cases s items) = 0
+
+abbrev pub levels_declaration : Decl → ℕ
+levels_declaration (struct_of s n b ms) = greatest levels_member ms
+levels_declaration (enum_of s n b ms) = greatest levels_member ms
+levels_declaration (function f) = levels_blk f.body
+
+-- the most levels of patterns in a body
+abbrev pub levels_file : File → ℕ
+levels_file f = greatest levels_declaration f.declarations

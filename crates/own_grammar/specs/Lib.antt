@@ -2,7 +2,9 @@ pub mod Tests
 pub mod Nesting
 pub mod Spells
 pub mod Partial
+pub mod Levels
 pub mod Reading
+pub mod Limits
 pub mod Lists
 pub mod Declarations
 pub mod PartialFile

@@ -224,10 +224,8 @@ is_let_case (let_case s n ps) = true
 is_let_case (let_number s negative n) = false
 is_let_case (let_truth s b) = false
 
--- ---- nesting: blocks, statements and expressions are nodes, a path is one node, an expression statement and its
--- expression are two. A clause is none, nor is the pattern of a clause, but a pattern in the parentheses of another is.
+-- ---- how many levels of patterns stand below a pattern: those in the parentheses of another one are a level further
 
--- how many patterns stand in one another below a pattern
 abbrev mutual
   pub nest_let_pat : LetPat → ℕ
   nest_let_pat (let_any s) = 0
@@ -254,6 +252,9 @@ abbrev mutual
   pub nest_pats : Pats → ℕ
   nest_pats no_pats = 0
   nest_pats (pat p ps) = max (nest_pat p) (nest_pats ps)
+
+-- ---- nesting: blocks, statements and expressions are nodes, a path is one node, an expression statement and its
+-- expression are two. Clauses and patterns are none.
 
 abbrev mutual
   pub nest : Exp → ℕ
@@ -308,8 +309,8 @@ abbrev mutual
   nest_stms (stm s ss) = max (nest_stm s) (nest_stms ss)
 
   pub nest_when : When → ℕ
-  nest_when (case_of ps) = nest_pats ps
-  nest_when (case_where p e) = max (nest_pat p) (nest e)
+  nest_when (case_of ps) = 0
+  nest_when (case_where p e) = nest e
   nest_when default = 0
 
   pub nest_clauses : Clauses → ℕ

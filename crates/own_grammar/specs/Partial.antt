@@ -6,6 +6,7 @@ use Rattle.own_tree.specs.declared.token.Kind.TheVariants.{Mark, Word}
 use Rattle.own_tree.specs.declared.token.Mark.TheVariants as mark
 use Rattle.own_tree.specs.declared.token.Word.TheVariants as word
 use Rattle.own_tree.specs.declared.tree.Name.{Name}
+use Rattle.own_tree.specs.declared.tree.ClosureName.{ClosureName}
 use Rattle.own_tree.specs.declared.tree.Path.{Path}
 use Rattle.own_tree.specs.declared.tree.Keyword.{Keyword}
 use Rattle.own_tree.specs.declared.tree.PrefixOperator.{PrefixOperator}
@@ -76,7 +77,7 @@ mutual
   pub data PClo : Type 0 where
     -- its brace alone
     p_opened : PClo
-    p_closure : List (Option Name) → PStms → PClo
+    p_closure : List ClosureName → PStms → PClo
 
   pub data PStm : Type 0 where
     gone_stm : PStm
@@ -129,7 +130,7 @@ level_p (p_unclosed f es) = 0
 level_p (p_call_closing f es p) = 0
 level_p (p_call_closure f p) = 0
 
--- the greatest number of nodes on a way down, of patterns without the first one
+-- how many levels of patterns stand below one that breaks off
 abbrev mutual
   pub nest_plp : PLetPat → ℕ
   nest_plp gone_let = 0
@@ -149,6 +150,7 @@ abbrev mutual
   nest_pps (p_pattern p) = nest_pp p
   nest_pps (p_next_pattern p ps) = max (nest_pat p) (nest_pps ps)
 
+-- the greatest number of nodes on a way down
 abbrev mutual
   pub nest_p : PExp → ℕ
   nest_p gone = 1
@@ -204,8 +206,8 @@ abbrev mutual
   nest_pl (p_next s ps) = max (nest_stm s) (nest_pl ps)
 
   pub nest_pc : PClauses → ℕ
-  nest_pc (p_patterns ps) = nest_pps ps
-  nest_pc (p_where q p) = max (nest_pat q) (nest_p p)
+  nest_pc (p_patterns ps) = 0
+  nest_pc (p_where q p) = nest_p p
   nest_pc (p_clause h ps) = max (nest_when h) (nest_pl ps)
   nest_pc (p_next_clause h ss ps) = max (nest_when h) (max (nest_stms ss) (nest_pc ps))
 

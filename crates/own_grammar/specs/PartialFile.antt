@@ -12,6 +12,7 @@ use Rattle.own_tree.specs.Source.{Member, Decl}
 use Rattle.own_grammar.specs.Tests.{Toks, after, kind_at, name_at}
 use Rattle.own_grammar.specs.Lists.{Separated}
 use Rattle.own_grammar.specs.Declarations.{SpellsParameters, Returns, Changing, Noncopyable, SpellsStructMember, SpellsEnumMember, SpellsDeclaration}
+use Rattle.own_grammar.specs.Levels.{levels_pb}
 use Rattle.own_grammar.specs.Partial.{PBlk, nest_pb, PartB}
 
 pub record PFun : Type 0 where
@@ -49,6 +50,21 @@ nest_pd (p_function f) = nest_pb f.body
 
 abbrev pub nest_pf : PFile → ℕ
 nest_pf f = nest_pd f.last
+
+-- ---- its levels of patterns
+
+abbrev pub levels_pm : PMember → ℕ
+levels_pm (p_initializer ps b) = levels_pb b
+levels_pm (p_deinitializer b) = levels_pb b
+levels_pm (p_method m f) = levels_pb f.body
+
+abbrev pub levels_pd : PDecl → ℕ
+levels_pd (p_struct n b ms m) = levels_pm m
+levels_pd (p_enum n b ms m) = levels_pm m
+levels_pd (p_function f) = levels_pb f.body
+
+abbrev pub levels_pf : PFile → ℕ
+levels_pf f = levels_pd f.last
 
 -- ---- what they spell
 

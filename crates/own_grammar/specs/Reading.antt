@@ -82,8 +82,7 @@ PatternOut (patterns_on ps) = List Pat
 abbrev pub PatternReader : Type 0
 PatternReader = (g : PatternGoal) → ℕ → Toks → Read (PatternOut g)
 
--- One step, where `k` reads what stands after at least one token. `d` nodes stand above what the pattern holds, and
--- `most` are allowed.
+-- One step, where `k` reads what stands after at least one token. The pattern is at level `d`, and `most` are allowed.
 
 -- after the `(` of a case
 unfoldable pub let_parts_with : ℕ → PatternReader → ℕ → Toks → Name → Toks → Read LetPat
@@ -188,7 +187,8 @@ Out body = Blk
 abbrev pub Reader : Type 0
 Reader = (g : Goal) → ℕ → Toks → Read (Out g)
 
--- One step, where `k` reads what stands after at least one token. `most` levels are allowed.
+-- One step, where `k` reads what stands after at least one token. `most` nodes are allowed on a way down, and `levels`
+-- levels of patterns, of which the pattern of a clause is the first.
 
 unfoldable pub parenthesized_with : Reader → ℕ → Toks → Read Exp
 parenthesized_with k d ts = k (expression Inside) (d + 1) (after ts) >>= λ e. if is_mark mark.CloseParen e.1 then Ok (parenthesized (till (here ts) (here e.1)) e.0, after e.1) else syntax_at e.1
@@ -448,38 +448,38 @@ where_with k d (p ∷ []) ts = if is_word word.Where ts then (k (expression Plai
 where_with k d (p ∷ q ∷ ps) ts = Ok (case_of (pat p (pats_of (q ∷ ps))), ts)
 
 unfoldable pub head_with : ℕ → Reader → ℕ → Toks → Read When
-head_with most k d ts = if is_word word.Case ts then (read_pattern most (patterns_on []) d (after ts) >>= λ ps. where_with k d ps.0 ps.1)
+head_with levels k d ts = if is_word word.Case ts then (read_pattern levels (patterns_on []) 1 (after ts) >>= λ ps. where_with k d ps.0 ps.1)
     else (if is_word word.Default ts then Ok (default, after ts) else syntax_at ts)
 
 unfoldable pub clause_with : ℕ → Reader → ℕ → Toks → Read Cla
-clause_with most k d ts = head_with most k d ts >>= λ h. if is_mark mark.Colon h.1
+clause_with levels k d ts = head_with levels k d ts >>= λ h. if is_mark mark.Colon h.1
     then (k (clause_on []) d (after h.1) >>= λ ss. Ok ((till (here ts) (stms_end (here h.1) (stms_of ss.0)), h.0, stms_of ss.0), ss.1))
     else syntax_at h.1
 
 unfoldable pub clauses_with : ℕ → Reader → List Cla → ℕ → Toks → Read (List Cla)
-clauses_with most k cs d ts = if is_mark mark.CloseBrace ts then Ok (cs, ts) else (clause_with most k d ts >>= λ c. k (clauses_on (cs ++ c.0 ∷ [])) d c.1)
+clauses_with levels k cs d ts = if is_mark mark.CloseBrace ts then Ok (cs, ts) else (clause_with levels k d ts >>= λ c. k (clauses_on (cs ++ c.0 ∷ [])) d c.1)
 
 unfoldable pub block_with : ℕ → Reader → ℕ → Toks → Read Blk
 block_with most k d ts = if nat_lt d most then (if is_mark mark.OpenBrace ts then
     (k (statements_on []) (d + 1) (after ts) >>= λ ss. Ok (block (till (here ts) (here ss.1)) (stms_of ss.0), after ss.1))
     else syntax_at ts) else depth_at ts
 
-unfoldable pub step : ℕ → Reader → Reader
-step most k (expression context) d ts = expression_with most k context d ts
-step most k (operand context) d ts = pre_with most k true context d ts
-step most k (operators_on j context e) d ts = operators_with most k j context e d ts
-step most k (calls_on context f) d ts = calls_with most k context f d ts
-step most k (arguments_on xs) d ts = arguments_with most k xs d ts
-step most k statement d ts = statement_with most k d ts
-step most k (statements_on ss) d ts = statements_with most k ss d ts
-step most k (clause_on ss) d ts = clause_statements_with most k ss d ts
-step most k (clauses_on cs) d ts = clauses_with most k cs d ts
-step most k body d ts = block_with most k d ts
+unfoldable pub step : ℕ → ℕ → Reader → Reader
+step most levels k (expression context) d ts = expression_with most k context d ts
+step most levels k (operand context) d ts = pre_with most k true context d ts
+step most levels k (operators_on j context e) d ts = operators_with most k j context e d ts
+step most levels k (calls_on context f) d ts = calls_with most k context f d ts
+step most levels k (arguments_on xs) d ts = arguments_with most k xs d ts
+step most levels k statement d ts = statement_with most k d ts
+step most levels k (statements_on ss) d ts = statements_with most k ss d ts
+step most levels k (clause_on ss) d ts = clause_statements_with most k ss d ts
+step most levels k (clauses_on cs) d ts = clauses_with levels k cs d ts
+step most levels k body d ts = block_with most k d ts
 
 -- fuel is more than the number of tokens
-unfoldable pub read_at : ℕ → ℕ → Reader
-read_at most zero g d ts = Err (Syntax 0)
-read_at most (suc fuel) g d ts = step most (read_at most fuel) g d ts
+unfoldable pub read_at : ℕ → ℕ → ℕ → Reader
+read_at most levels zero g d ts = Err (Syntax 0)
+read_at most levels (suc fuel) g d ts = step most levels (read_at most levels fuel) g d ts
 
-unfoldable pub read : ℕ → Reader
-read most g d ts = read_at most (suc (length ts)) g d ts
+unfoldable pub read : ℕ → ℕ → Reader
+read most levels g d ts = read_at most levels (suc (length ts)) g d ts

@@ -69,19 +69,19 @@ parameters_with ts = bracketed_with parameter_with ts >>= λ ps. Ok (ps.0, after
 -- ---- members
 
 -- after the parameters of a function
-unfoldable pub function_body_with : ℕ → Toks → Name → List Parameter → Toks → Read Fun
-function_body_with most ts n ps us = returns_with us >>= λ r. read most body 0 r.1 >>= λ b.
+unfoldable pub function_body_with : ℕ → ℕ → Toks → Name → List Parameter → Toks → Read Fun
+function_body_with most levels ts n ps us = returns_with us >>= λ r. read most levels body 0 r.1 >>= λ b.
     Ok (record { span = till (here ts) (blk_span b.0); name = n; parameters = ps; result = r.0; body = b.0 }, b.1)
 
-unfoldable pub function_with : ℕ → Toks → Read Fun
-function_with most ts = wanted (is_word word.Func ts) ts (on_some (name_at (after ts))
-    (λ n. parameters_with (after (after ts)) >>= λ ps. function_body_with most ts n ps.0 ps.1)
+unfoldable pub function_with : ℕ → ℕ → Toks → Read Fun
+function_with most levels ts = wanted (is_word word.Func ts) ts (on_some (name_at (after ts))
+    (λ n. parameters_with (after (after ts)) >>= λ ps. function_body_with most levels ts n ps.0 ps.1)
     (syntax_at (after ts)))
 
-unfoldable pub method_with : ℕ → Toks → Read Member
-method_with most ts = on_some (changing_at ts)
-    (λ m. function_with most (after ts) >>= λ f. Ok (method (till (here ts) f.0.span) (Some m) f.0, f.1))
-    (function_with most ts >>= λ f. Ok (method (till (here ts) f.0.span) None f.0, f.1))
+unfoldable pub method_with : ℕ → ℕ → Toks → Read Member
+method_with most levels ts = on_some (changing_at ts)
+    (λ m. function_with most levels (after ts) >>= λ f. Ok (method (till (here ts) f.0.span) (Some m) f.0, f.1))
+    (function_with most levels ts >>= λ f. Ok (method (till (here ts) f.0.span) None f.0, f.1))
 
 unfoldable pub field_with : Toks → Keyword → Read Member
 field_with ts k = on_some (name_at (after ts))
@@ -90,16 +90,16 @@ field_with ts k = on_some (name_at (after ts))
     (syntax_at (after (after (after ts))))))
     (syntax_at (after ts))
 
-unfoldable pub initializer_with : ℕ → Toks → Read Member
-initializer_with most ts = parameters_with (after ts) >>= λ ps. read most body 0 ps.1 >>= λ b. Ok (initializer (till (here ts) (blk_span b.0)) ps.0 b.0, b.1)
+unfoldable pub initializer_with : ℕ → ℕ → Toks → Read Member
+initializer_with most levels ts = parameters_with (after ts) >>= λ ps. read most levels body 0 ps.1 >>= λ b. Ok (initializer (till (here ts) (blk_span b.0)) ps.0 b.0, b.1)
 
-unfoldable pub deinitializer_with : ℕ → Toks → Read Member
-deinitializer_with most ts = read most body 0 (after ts) >>= λ b. Ok (deinitializer (till (here ts) (blk_span b.0)) b.0, b.1)
+unfoldable pub deinitializer_with : ℕ → ℕ → Toks → Read Member
+deinitializer_with most levels ts = read most levels body 0 (after ts) >>= λ b. Ok (deinitializer (till (here ts) (blk_span b.0)) b.0, b.1)
 
-unfoldable pub struct_member_with : ℕ → Toks → Read Member
-struct_member_with most ts = on_some (keyword_at ts) (field_with ts)
-    (if is_word word.Init ts then initializer_with most ts
-    else (if is_word word.Deinit ts then deinitializer_with most ts else method_with most ts))
+unfoldable pub struct_member_with : ℕ → ℕ → Toks → Read Member
+struct_member_with most levels ts = on_some (keyword_at ts) (field_with ts)
+    (if is_word word.Init ts then initializer_with most levels ts
+    else (if is_word word.Deinit ts then deinitializer_with most levels ts else method_with most levels ts))
 
 unfoldable pub name_with : Toks → Read Name
 name_with ts = on_some (name_at ts) (λ n. Ok (n, after ts)) (syntax_at ts)
@@ -114,9 +114,9 @@ item_with ts = on_some (name_at ts)
 unfoldable pub cases_with : Toks → Read Member
 cases_with ts = listed_on item_with [] (after ts) >>= λ items. Ok (cases (till (here ts) (items_end (here ts) items.0)) items.0, items.1)
 
-unfoldable pub enum_member_with : ℕ → Toks → Read Member
-enum_member_with most ts = if is_word word.Case ts then cases_with ts
-    else (if is_word word.Deinit ts then deinitializer_with most ts else method_with most ts)
+unfoldable pub enum_member_with : ℕ → ℕ → Toks → Read Member
+enum_member_with most levels ts = if is_word word.Case ts then cases_with ts
+    else (if is_word word.Deinit ts then deinitializer_with most levels ts else method_with most levels ts)
 
 -- ---- declarations and the file
 
@@ -135,10 +135,10 @@ named_with item make ts = on_some (name_at (after ts))
     (λ n. noncopyable_with (after (after ts)) >>= λ b. members_with item b.1 >>= λ ms. Ok (make (till (here ts) (here ms.1)) n b.0 ms.0, after ms.1))
     (syntax_at (after ts))
 
-unfoldable pub declaration_with : ℕ → Toks → Read Decl
-declaration_with most ts = if is_word word.Struct ts then named_with (struct_member_with most) struct_of ts
-    else (if is_word word.Enum ts then named_with (enum_member_with most) enum_of ts
-    else (function_with most ts >>= λ f. Ok (function f.0, f.1)))
+unfoldable pub declaration_with : ℕ → ℕ → Toks → Read Decl
+declaration_with most levels ts = if is_word word.Struct ts then named_with (struct_member_with most levels) struct_of ts
+    else (if is_word word.Enum ts then named_with (enum_member_with most levels) enum_of ts
+    else (function_with most levels ts >>= λ f. Ok (function f.0, f.1)))
 
 -- after the last `)`
 unfoldable pub end_with : Toks → Result Unit Fault
@@ -151,5 +151,5 @@ main_with ts = if opens Plain (after ts) then (if is_mark mark.CloseParen (after
 unfoldable pub is_main : Toks → Bool
 is_main ts = is_named (codes "main") ts
 
-unfoldable pub read_file : ℕ → Toks → Result File Fault
-read_file most ts = separated_on is_main (declaration_with most) [] ts >>= λ ds. main_with ds.1 >>= λ s. Ok (record { declarations = ds.0; main = s; tokens = length ts })
+unfoldable pub read_file : ℕ → ℕ → Toks → Result File Fault
+read_file most levels ts = separated_on is_main (declaration_with most levels) [] ts >>= λ ds. main_with ds.1 >>= λ s. Ok (record { declarations = ds.0; main = s; tokens = length ts })

@@ -12,6 +12,8 @@ use Rattle.own_tree.specs.declared.token.Kind.{Kind}
 use Rattle.own_tree.specs.declared.token.Kind.TheVariants as kind
 use Rattle.own_tree.specs.declared.token.Token.{Token}
 use Rattle.own_tree.specs.declared.tree.Name.{Name}
+use Rattle.own_tree.specs.declared.tree.ClosureName.{ClosureName}
+use Rattle.own_tree.specs.declared.tree.ClosureName.TheVariants as closure_name
 use Rattle.own_tree.specs.declared.tree.Root.{Root}
 use Rattle.own_tree.specs.declared.tree.Root.TheVariants.{Named, SelfWord}
 use Rattle.own_tree.specs.declared.tree.Keyword.{Keyword}
@@ -355,22 +357,38 @@ abbrev pub then_more : {A : Type 0} → A → Option (List A × Toks) → Option
 then_more x None = None
 then_more x (Some r) = Some (x ∷ r.0, r.1)
 
-abbrev pub name_then : Option (Option Name) → Bool → Bool → Option (List (Option Name) × Toks) → Toks → Option (List (Option Name) × Toks)
+abbrev pub closure_mark : Span → Mark → Option ClosureName
+closure_mark s mark.Underscore = Some (closure_name.Any s)
+closure_mark s _ = None
+
+abbrev pub closure_name_in : Span → Option Kind → Option ClosureName
+closure_name_in s None = None
+closure_name_in s (Some (kind.Name x)) = Some (closure_name.Bind (record { text = x; span = s }))
+closure_name_in s (Some (kind.Word x)) = None
+closure_name_in s (Some (kind.Number x)) = None
+closure_name_in s (Some (kind.Text x)) = None
+closure_name_in s (Some (kind.Mark x)) = closure_mark s x
+
+-- a name of a closure: NAME or `_`
+unfoldable pub closure_name_at : Toks → Option ClosureName
+closure_name_at ts = closure_name_in (here ts) (kind_at ts)
+
+abbrev pub name_then : Option ClosureName → Bool → Bool → Option (List ClosureName × Toks) → Toks → Option (List ClosureName × Toks)
 name_then None comma ends more us = None
 name_then (Some n) true ends more us = then_more n more
 name_then (Some n) false true more us = Some (n ∷ [], us)
 name_then (Some n) false false more us = None
 
 -- the names of a closure up to their `in`, where some stand here
-unfoldable pub names_at : Toks → Option (List (Option Name) × Toks)
+unfoldable pub names_at : Toks → Option (List ClosureName × Toks)
 names_at [] = None
 names_at (t ∷ []) = None
-names_at (t ∷ u ∷ ts) = name_then (binder_at (t ∷ u ∷ ts)) (is_mark mark.Comma (u ∷ ts)) (is_word word.In (u ∷ ts)) (names_at ts) ts
+names_at (t ∷ u ∷ ts) = name_then (closure_name_at (t ∷ u ∷ ts)) (is_mark mark.Comma (u ∷ ts)) (is_word word.In (u ∷ ts)) (names_at ts) ts
 
-abbrev pub names_or : Option (List (Option Name) × Toks) → Toks → List (Option Name) × Toks
+abbrev pub names_or : Option (List ClosureName × Toks) → Toks → List ClosureName × Toks
 names_or (Some r) ts = r
 names_or None ts = ([], ts)
 
 -- the names of a closure, and where its statements begin
-unfoldable pub closure_head : Toks → List (Option Name) × Toks
+unfoldable pub closure_head : Toks → List ClosureName × Toks
 closure_head ts = names_or (names_at ts) ts

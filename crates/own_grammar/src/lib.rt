@@ -4,6 +4,8 @@
 //! crates above and are pinned by `specs/Reading.antt`.
 #![tactic(auto)]
 
+pub mod limits;
+
 /// Where an expression stands. It decides whether line ends count, and whether a closure may stand
 /// outside parentheses.
 #[derive(Clone, Copy, Debug, PartialEq, Eq)]

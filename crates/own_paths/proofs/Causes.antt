@@ -14,14 +14,14 @@ use Rattle.own_tree.specs.OpSource.{in_order}
 use Rattle.own_tree.specs.TypedSource.{TExp, number, text, truth, path, parenthesized, consumed, negated, inverted, arithmetic, wrapping, compared, logic, choice, member, call, address, closure, function, TExps, no_exps, exp, TStm, let_in, declare, ignore, assign, update, discard_self, if_then, if_else, else_if, loop_while, loop_repeat, loop_for, switch, leave, go_on, return_none, return_value, evaluate, TClauses, TBody, Program}
 use Rattle.own_paths.specs.Captures.{Captured, captures, first_passing, other_passings}
 use Rattle.own_paths.specs.Findings.{IsSameBreak, BreaksAtOp, BreaksAtReturn, IsLeastCause, IsLeastLeaf, IsFirstLeaf, IsPathFindingBy, IsLeastOf, IsBodyFinding, IsFixedFinding}
-use Rattle.own_paths.specs.Fixed.{Access, ops_in, breaks_O7, breaks_O8, breaks_O9, broken, if_so, op_breaks, ops_break, capture_breaks, captures_break, literals_break, conflict, conflicts_with, all_conflicts, held, claims, args_break, calls_break, changes_subject, accesses_change_subject, clauses_break, switch_breaks, switches_break, fixed_breaks}
+use Rattle.own_paths.specs.Fixed.{Access, occurrences, breaks_O7, breaks_O8, breaks_O9, broken, if_so, op_breaks, ops_break, capture_breaks, captures_break, literals_break, conflict, conflicts_with, all_conflicts, held, claims, args_break, calls_break, changes_subject, accesses_change_subject, clauses_break, switch_breaks, switches_break, fixed_breaks}
 use Rattle.own_paths.specs.Laws.{FindingsHaveOneCause}
 use Rattle.own_paths.specs.Makers.{BodyUses, uses_of}
 use Rattle.own_shapes.specs.Spans.{opening}
 use Rattle.own_paths.specs.Ops.{body_ops, clauses_ops}
 use Rattle.own_shapes.specs.Places.{whole}
 use Rattle.own_shapes.specs.Types.{is_copyable, Types}
-use Rattle.own_paths.specs.Within.{exps_in_block, stms_in_block, literals, path_of}
+use Rattle.own_paths.specs.Within.{exps_in_block, stms_in_block, stms_in_clauses, literals, path_of}
 use Rattle.own_shapes.proofs.Lists.{In, in_contains}
 use Rattle.own_paths.proofs.Orders.{neither_after, span_apart, span_on}
 
@@ -161,7 +161,7 @@ module _ (types : Types) (program : Program) where
   switches_fixed (loop_repeat at a c ∷ rest) = switches_fixed rest
   switches_fixed (loop_for at x low o mark high a ∷ rest) = switches_fixed rest
   switches_fixed (switch at e cs ∷ rest) =
-      let os = ops_in (in_order (clauses_ops types program e at cs)) in
+      let os = occurrences types program (in_order (clauses_ops types program e at cs)) (stms_in_clauses cs) in
       both_fixed (switch_breaks types program (path_of e) os cs) _ (switch_fixed (path_of e) os cs) (switches_fixed rest)
   switches_fixed (leave at ∷ rest) = switches_fixed rest
   switches_fixed (go_on at ∷ rest) = switches_fixed rest
@@ -171,7 +171,7 @@ module _ (types : Types) (program : Program) where
 
   all_fixed : (k : ℕ) (body : TBody) → AllFixed (fixed_breaks types program k body)
   all_fixed k body =
-      let os = ops_in (body_ops types program body) in
+      let os = occurrences types program (body_ops types program body) (stms_in_block body.block) in
       let ls = literals (exps_in_block body.block) in
       let es = exps_in_block body.block in
       let ss = stms_in_block body.block in

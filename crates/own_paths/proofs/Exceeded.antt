@@ -1,6 +1,6 @@
 -- What is over a limit, and which leaves are not ambiguous.
-use Rattle.std.proofs.Common.{◌≡◌, ℕ, zero, suc, ◌+◌, ◌<◌, Bool, true, false, List, [], ◌∷◌, length, Option, Some, None, inl, inr, refl, arith}
-use Rattle.std.specs.Prelude.{nat_lt, slice_get}
+use Rattle.std.proofs.Common.{◌≡◌, ℕ, ◌+◌, ◌<◌, Bool, true, false, List, [], ◌∷◌, length, Option, Some, None, inl, inr, refl, arith}
+use Rattle.std.specs.Prelude.{nat_lt}
 use Rattle.std.proofs.lemmas.Bool.{ltb-true}
 use Rattle.own_tree.specs.declared.limits.TheConstants.{MOST_BODY_SLOTS, MOST_BODY_OPS, MOST_BODY_LEAVES, MOST_BODY_MAKERS, MOST_OPS}
 use Rattle.own_tree.specs.declared.span.Span.{Span}

@@ -3,11 +3,9 @@ use Rattle.std.proofs.Common.{◌≡◌, ℕ, zero, suc, ◌<◌, ◌⊎◌, Lis
 use Rattle.own_tree.specs.declared.finding.Finding.{Finding}
 use Rattle.own_tree.specs.declared.finding.Rule.{Rule}
 use Rattle.own_tree.specs.declared.finding.Rule.TheVariants as rule
-use Rattle.own_tree.specs.declared.place.Place.{Place}
 use Rattle.own_tree.specs.declared.span.Span.{Span}
-use Rattle.own_shapes.specs.Places.{FieldsBefore, PlaceBefore}
+use Rattle.own_shapes.specs.Places.{PlaceBefore}
 use Rattle.own_paths.specs.Findings.{rule_number, SpanBefore, IsNotAfter, Precedes, Rising, IsSameBreak, AreAll}
-use Rattle.own_shapes.specs.Laws.{PlacesAreOrdered}
 use Rattle.own_paths.specs.Laws.{FindingsAreOrdered}
 use Rattle.own_shapes.proofs.Lists.{In, in_contains, contains_in}
 use Rattle.own_shapes.proofs.PlaceOrder.{place_apart, place_on, numbers, places}

@@ -1,5 +1,5 @@
 -- Worked uses that break fixed rules, or do not.
-use Rattle.std.specs.Prelude.{◌≡◌, ℕ, true, false, List, [], ◌∷◌, None, codes, refl}
+use Rattle.std.specs.Prelude.{◌≡◌, ℕ, true, false, List, [], ◌∷◌, codes, refl}
 use Rattle.own_tree.specs.declared.finding.Finding.{Finding}
 use Rattle.own_tree.specs.declared.finding.Rule.TheVariants as rule
 use Rattle.own_tree.specs.declared.place.Binding.{Binding}
@@ -10,11 +10,12 @@ use Rattle.own_tree.specs.declared.typed.BodyKind.TheVariants as body
 use Rattle.own_tree.specs.declared.typed.Passing.{Passing}
 use Rattle.own_tree.specs.declared.typed.Passing.TheVariants as passing
 use Rattle.own_tree.specs.declared.typed.Target.TheVariants as target
-use Rattle.own_tree.specs.TypedSource.{pat, no_pats, any, TExp, call, address, closure, TStm, assign, switch, case_of, clause, no_clauses, TBody, Program}
+use Rattle.own_tree.specs.TypedSource.{pat, no_pats, any, TExp, truth, parenthesized, call, address, closure, TStm, if_else, else_if, assign, switch, case_of, clause, no_clauses, TBody, Program}
 use Rattle.own_paths.specs.Fixed.{broken, fixed_breaks}
 use Rattle.own_shapes.specs.Places.{whole}
 use Rattle.own_shapes.specs.Types.{types_declared}
-use Rattle.own_shapes.proofs.Spelling.{sp, at, node, named, file_, in_place, path_at, p, num, exps, stms, blk, bound, body_of, program_of, do_, take_, file_types}
+use Rattle.own_shapes.proofs.Spelling.{sp, at, node, file_, in_place, path_at, p, num, exps, stms, blk, bound, body_of, program_of, do_, take_, file_decl, with_types, file_types}
+use Rattle.own_paths.proofs.Refused.{held_decl}
 
 -- ---- one statement in a body with the bindings 0 and 1
 
@@ -95,6 +96,50 @@ other_is_consumed = refl
 subject_is_consumed : breaks_of mode.Let mode.Let (switch_on_a (do_ 605 (take_ 605 (a_at 610)))) ≡ broken rule.O11 (sp 610) (whole 0) (sp 410) ∷ []
 unfolding types_declared
 subject_is_consumed = refl
+
+-- ---- what a literal `true` leaves out: no way leads there, and the fixed rules hold there too
+
+-- `if true { } else { .. }`
+abbrev else_of_true : TStm → TStm
+else_of_true s = if_else (node 403) (truth (at 406 type.Bool) true) (blk 411 413 []) (blk 420 620 (s ∷ []))
+
+borrowed_is_kept_there : breaks_of mode.Borrowing mode.Let (else_of_true (do_ 503 (take_ 503 (a_at 508)))) ≡ broken rule.O7 (sp 508) (whole 0) (sp 207) ∷ []
+unfolding types_declared
+borrowed_is_kept_there = refl
+
+-- of a value whose type has a `deinit`
+abbrev breaks_of_held : TStm → List Finding
+breaks_of_held s = fixed_breaks (with_types (file_decl ∷ held_decl ∷ [])) (program_of (main_of s ∷ []) (bound 207 (codes "q") (type.Named 1) mode.Let 0 ∷ [])) 0 (main_of s)
+
+-- `if true { } else if false { } else { take(q.a) }`
+part_is_kept_there : breaks_of_held (
+    else_if (node 403) (truth (at 406 type.Bool) true) (blk 411 413 []) (
+    if_else (node 420) (truth (at 423 type.Bool) false) (blk 428 430 []) (blk 437 620 (do_ 503 (take_ 503 (p 508 file_ 0 (0 ∷ []))) ∷ []))))
+    ≡ broken rule.O8 (sp 508) (in_place 0 (0 ∷ [])) (sp 207) ∷ []
+unfolding types_declared
+part_is_kept_there = refl
+
+let_is_not_assigned_there : breaks_of mode.Let mode.Let (else_of_true (assign (node 503) (path_at 503 file_ 0 []) (p 507 file_ 1 [])))
+    ≡ broken rule.O9 (sp 503) (whole 0) (sp 207) ∷ []
+unfolding types_declared
+let_is_not_assigned_there = refl
+
+-- one left out in another
+let_is_not_assigned_within : breaks_of mode.Let mode.Let (else_of_true (else_of_true (assign (node 503) (path_at 503 file_ 0 []) (p 507 file_ 1 []))))
+    ≡ broken rule.O9 (sp 503) (whole 0) (sp 207) ∷ []
+unfolding types_declared
+let_is_not_assigned_within = refl
+
+subject_is_kept_there : breaks_of mode.Let mode.Let (switch_on_a (else_of_true (do_ 605 (take_ 605 (a_at 610))))) ≡ broken rule.O11 (sp 610) (whole 0) (sp 410) ∷ []
+unfolding types_declared
+subject_is_kept_there = refl
+
+-- A condition in parentheses leaves nothing out, and what stands in the tree is there once.
+consumed_in_parentheses : breaks_of mode.Borrowing mode.Let (
+    if_else (node 403) (parenthesized (at 406 type.Bool) (truth (at 407 type.Bool) true)) (blk 411 413 []) (blk 420 620 (do_ 503 (take_ 503 (a_at 508)) ∷ [])))
+    ≡ broken rule.O7 (sp 508) (whole 0) (sp 207) ∷ []
+unfolding types_declared
+consumed_in_parentheses = refl
 
 -- ---- a changing capture of a `let`: one finding at the `{`, and one at the place
 

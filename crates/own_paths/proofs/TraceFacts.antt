@@ -28,7 +28,7 @@ module _ (A A' B B' : Set) (a : Within A A') (b : Within B B') where
   broken_within cut os c w t = t
 
 -- the first part of a whole trace is whole
-first_whole : (B : Set) (how c : Completion) (os : List Op) → IsWhole c → After how B os c → IsWhole how
+pub first_whole : (B : Set) (how c : Completion) (os : List Op) → IsWhole c → After how B os c → IsWhole how
 first_whole B goes_on c os w t = tt
 first_whole B (breaks s) c os w t = tt
 first_whole B (continues s) c os w t = tt
@@ -36,7 +36,7 @@ first_whole B (returns s) c os w t = tt
 first_whole B halts c os w t = tt
 first_whole B cut c os w t = subst IsWhole t.1 w
 
-turn_whole : (B : Set) (how c : Completion) (os : List Op) → IsWhole c → Broken how B os c → IsWhole how
+pub turn_whole : (B : Set) (how c : Completion) (os : List Op) → IsWhole c → Broken how B os c → IsWhole how
 turn_whole B goes_on c os w t = tt
 turn_whole B (breaks s) c os w t = tt
 turn_whole B (continues s) c os w t = tt
@@ -58,7 +58,7 @@ turns_within A A' B B' a b (suc j) zero le os c w t = absurd (omega (arith, le))
 turns_within A A' B B' a b (suc j) (suc j') le os c w t =
     turn_within A A' _ _ a (turn_within B B' _ _ b (turns_within A A' B B' a b j j' (omega (arith, le)))) os c w t
 
-uncaught : (how : Completion) → IsWhole (caught how) → IsWhole how
+pub uncaught : (how : Completion) → IsWhole (caught how) → IsWhole how
 uncaught goes_on w = w
 uncaught (breaks s) w = tt
 uncaught (continues s) w = w
@@ -103,7 +103,7 @@ splits k a b os t = go t.1 t.3 t.4
 abbrev pub Some_of : Set → Type 0
 Some_of A = (os : List Op) × (c : Completion) × A os c
 
-some_after : (B : Set) → Some_of B → (how : Completion) → Some_of (After how B)
+pub some_after : (B : Set) → Some_of B → (how : Completion) → Some_of (After how B)
 some_after B b goes_on = b
 some_after B b (breaks s) = ([], breaks s, (refl, refl))
 some_after B b (continues s) = ([], continues s, (refl, refl))
@@ -111,7 +111,7 @@ some_after B b (returns s) = ([], returns s, (refl, refl))
 some_after B b halts = ([], halts, (refl, refl))
 some_after B b cut = ([], cut, (refl, refl))
 
-some_broken : (B : Set) → Some_of B → (how : Completion) → Some_of (Broken how B)
+pub some_broken : (B : Set) → Some_of B → (how : Completion) → Some_of (Broken how B)
 some_broken B b goes_on = b
 some_broken B b (breaks s) = ([], goes_on, (refl, refl))
 some_broken B b (continues s) = b
@@ -119,7 +119,7 @@ some_broken B b (returns s) = ([], returns s, (refl, refl))
 some_broken B b halts = ([], halts, (refl, refl))
 some_broken B b cut = ([], cut, (refl, refl))
 
-some_joined : (A : Set) (B : Completion → Set) → Some_of A → ((how : Completion) → Some_of (B how)) → Some_of (Joined A B)
+pub some_joined : (A : Set) (B : Completion → Set) → Some_of A → ((how : Completion) → Some_of (B how)) → Some_of (Joined A B)
 some_joined A B a b = let r = b a.1 in (a.0 ++ r.0, r.1, (a.0, a.1, r.0, a.2, r.2, refl))
 
 pub some_turns : (A B : Set) → Some_of A → Some_of B → (j : ℕ) → Some_of (Turns A B j)
@@ -147,7 +147,7 @@ some_later k b how = some_after (IsTrace k b) (some_trace k b) how
 abbrev pub Longer : Set → Set → Type 0
 Longer A A' = (os : List Op) → A os cut → (zs : List Op) × (c : Completion) × A' (os ++ zs) c
 
-append_empty : (os : List Op) → os ++ [] ≡ os
+pub append_empty : (os : List Op) → os ++ [] ≡ os
 append_empty [] = refl
 append_empty (o ∷ os) = ap (λ l. o ∷ l) (append_empty os)
 

@@ -1,5 +1,5 @@
 -- Worked op trees, `init` bodies, facts and limits.
-use Rattle.std.specs.Prelude.{◌≡◌, ℕ, zero, suc, true, false, List, [], ◌∷◌, Some, None, codes, refl}
+use Rattle.std.specs.Prelude.{◌≡◌, ℕ, true, false, List, [], ◌∷◌, Some, codes, refl}
 use Rattle.std.proofs.Common.{inl, inr, sym, subst, arith}
 use Rattle.own_tree.specs.declared.finding.Rule.TheVariants as rule
 use Rattle.own_tree.specs.declared.op.OpKind.TheVariants as kind
@@ -26,7 +26,7 @@ use Rattle.own_shapes.specs.Types.{Types, types_declared}
 use Rattle.own_paths.proofs.Following.{followed}
 use Rattle.own_paths.proofs.Least.{O6_cause, return_cause, ends_leaf, spans_of, least_in}
 use Rattle.own_shapes.proofs.Lists.{In, in_contains}
-use Rattle.own_shapes.proofs.Spelling.{sp, at, node, named, file_, in_place, path_at, p, num, exps, stms, blk, bound, body_of, program_of, do_, new, take_, op_at, no_block, file_decl, with_types, file_types, one_case}
+use Rattle.own_shapes.proofs.Spelling.{sp, at, node, named, file_, in_place, path_at, p, num, exps, stms, blk, bound, body_of, program_of, do_, new, take_, op_at, file_decl, with_types, file_types, one_case}
 
 -- ---- a consuming `switch` whose guard sees what the body then owns
 

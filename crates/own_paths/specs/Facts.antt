@@ -12,15 +12,19 @@ use Rattle.own_paths.specs.Makers.{BodyUses, is_live, maker, uses_of}
 use Rattle.own_shapes.specs.Places.{whole, covers}
 use Rattle.own_shapes.specs.Types.{Types, shape_in, holds_tracked}
 
+-- The fact of a leaf somewhere, by whether some way comes there with the leaf live, and whether one comes with it not
+-- live. It is Never where none comes with it live, also where none comes at all.
+abbrev pub IsFactBy : (may_be : Bool → Type 0) → LeafFact → Type 0
+IsFactBy may_be fact.Always = may_be true × (may_be false → ⊥)
+IsFactBy may_be fact.Both = may_be true × may_be false
+IsFactBy may_be fact.Never = may_be true → ⊥
+
 -- some trace comes to the op with the leaf live, or not live
 abbrev pub MayBe : BodyUses → Op → Place → Bool → Type 0
 MayBe uses o leaf live = (before : List Op) × Reaches uses before o × (is_live (maker uses leaf before) ≡ live)
 
--- No trace comes with the leaf live where it is Never, also where none comes at all.
 abbrev pub IsFact : BodyUses → Op → Place → LeafFact → Type 0
-IsFact uses o leaf fact.Always = MayBe uses o leaf true × (MayBe uses o leaf false → ⊥)
-IsFact uses o leaf fact.Both = MayBe uses o leaf true × MayBe uses o leaf false
-IsFact uses o leaf fact.Never = MayBe uses o leaf true → ⊥
+IsFact uses o leaf f = IsFactBy (MayBe uses o leaf) f
 
 module _ (types : Types) (program : Program) where
   abbrev pub IsFactOf : Bool → ℕ → TBody → Op → Place → LeafFact → Type 0

@@ -1,6 +1,6 @@
--- The fixed rules O7 to O11: what breaks them by itself, whatever ways lead to it. A break is written as a finding
--- with one of its causes; `Findings.antt` takes the least one.
-use Rattle.std.specs.Prelude.{ℕ, Bool, true, false, not, ◌&&◌, ◌||◌, ◌==◌, if◌then◌else◌, List, [], ◌∷◌, ◌++◌, slice_get, Option, Some, None}
+-- The fixed rules O7 to O11: what breaks them by itself, whatever ways lead to it, and also where none does. A break
+-- is written as a finding with one of its causes; `Findings.antt` takes the least one.
+use Rattle.std.specs.Prelude.{ℕ, Bool, true, false, not, ◌&&◌, ◌||◌, ◌==◌, if◌then◌else◌, List, [], ◌∷◌, ◌++◌, map, slice_get, Option, Some, None}
 use Rattle.own_tree.specs.declared.finding.Finding.{Finding}
 use Rattle.own_tree.specs.declared.finding.Rule.{Rule}
 use Rattle.own_tree.specs.declared.finding.Rule.TheVariants as rule
@@ -17,13 +17,13 @@ use Rattle.own_tree.specs.declared.typed.Passing.{Passing}
 use Rattle.own_tree.specs.declared.typed.Passing.TheVariants as passing
 use Rattle.own_tree.specs.declared.typed.TypedPath.{TypedPath}
 use Rattle.own_tree.specs.OpSource.{Ops, op, nothing, next, either, loop, catch, scope, break_at, continue_at, return_at, halt, in_order}
-use Rattle.own_tree.specs.TypedSource.{TExp, number, text, truth, path, parenthesized, consumed, negated, inverted, arithmetic, wrapping, compared, logic, choice, member, call, address, closure, function, TExps, no_exps, exp, TStm, switch, TClauses, TBody, Program}
+use Rattle.own_tree.specs.TypedSource.{TExp, number, text, truth, path, parenthesized, consumed, negated, inverted, arithmetic, wrapping, compared, logic, choice, member, call, address, closure, function, TExps, no_exps, exp, TStm, if_else, else_if, switch, TClauses, TBody, Program}
 use Rattle.own_paths.specs.Captures.{Captured, captures, first_passing, other_passings}
-use Rattle.own_paths.specs.Ops.{use_by, exp_ops, clauses_ops, body_ops}
+use Rattle.own_paths.specs.Ops.{use_by, is_literal_true, exp_ops, stm_ops, block_ops, clauses_ops, body_ops}
 use Rattle.own_shapes.specs.Spans.{opening}
 use Rattle.own_shapes.specs.Places.{whole, overlaps, is_strictly_above}
 use Rattle.own_shapes.specs.Types.{is_copyable, Types, leaves, opened_leaves, passes_let}
-use Rattle.own_paths.specs.Within.{exps_in, exps_in_block, exps_in_clauses, stms_in_block, literals, path_of}
+use Rattle.own_paths.specs.Within.{exps_in, exps_in_block, exps_in_clauses, stms_in_block, stms_in_clauses, literals, path_of}
 
 -- the ops that stand in an op tree, but for the Ends of its scopes
 abbrev pub ops_in : Ops → List Op
@@ -38,6 +38,20 @@ ops_in (break_at s) = []
 ops_in (continue_at s) = []
 ops_in (return_at s) = []
 ops_in halt = []
+
+-- ---- each occurrence
+
+module _ (types : Types) (program : Program) where
+  -- What a literal `true` leaves out of a statement, which has no ops in the tree. One that stands in what is left out
+  -- is that of another statement.
+  abbrev pub left_out : TStm → Ops
+  left_out (if_else at c a b) = if is_literal_true c then block_ops types program b else nothing
+  left_out (else_if at c a s) = if is_literal_true c then stm_ops types program s else nothing
+  left_out s = nothing
+
+  -- the ops of a tree, and of what is left out of it, by all the statements in it
+  abbrev pub occurrences : Ops → List TStm → List Op
+  occurrences tree ss = ops_in tree ++ ops_in (in_order (map left_out ss))
 
 -- ---- bindings
 
@@ -345,7 +359,8 @@ module _ (types : Types) (program : Program) where
   abbrev pub switches_break : List TStm → List Finding
   switches_break [] = []
   switches_break (switch at e cs ∷ rest) =
-      switch_breaks (path_of e) (ops_in (in_order (clauses_ops types program e at cs))) cs ++ switches_break rest
+      switch_breaks (path_of e) (occurrences types program (in_order (clauses_ops types program e at cs)) (stms_in_clauses cs)) cs
+      ++ switches_break rest
   switches_break (s ∷ rest) = switches_break rest
 
   -- ---- a body
@@ -353,7 +368,7 @@ module _ (types : Types) (program : Program) where
   -- all breaks of O7 to O11 in the body of that number, each with its cause
   abbrev pub fixed_breaks : ℕ → TBody → List Finding
   fixed_breaks body_number body =
-      ops_break types program body_number (ops_in (body_ops types program body))
+      ops_break types program body_number (occurrences types program (body_ops types program body) (stms_in_block body.block))
       ++ literals_break program (literals (exps_in_block body.block))
       ++ calls_break (exps_in_block body.block)
       ++ switches_break (stms_in_block body.block)

@@ -3,4 +3,4 @@
 
 pub mod place;
 
-pub use place::{LineColumn, place_of};
+pub use place::{LineColumn, place_in, place_of};

@@ -24,6 +24,18 @@ pub fn place_of(text: &[u8], at: u32) -> LineColumn
     place
 }
 
+/// The line and the column of an offset in bytes from 0; of one past the end, those of the end.
+pub fn place_in(text: &[u8], at: u32) -> LineColumn
+    requires { length text.now < 4294967295 }
+    ensures { result ≡ place_at text.now at }
+{
+    let end = text.len() as u32;
+    if at <= end {
+        return place_of(text, at);
+    }
+    place_of(text, end)
+}
+
 /// The byte at an index, if there is one.
 fn byte_at(text: &[u8], index: usize) -> Option<u8>
     ensures { result ≡ slice_get text.now index }

@@ -7,7 +7,7 @@ use Rattle.own_runs.specs.Destruction.{Passed}
 use Rattle.own_runs.specs.Loops.{Flow, onward, while_turns, repeat_turns, for_turns}
 use Rattle.own_runs.specs.Run.{behaviour, run_to, run_of, start}
 use Rattle.own_runs.specs.Store.{State, Act, take_turn, turn_of}
-use Rattle.own_runs.specs.Ways.{Way, gives, traps, stops, errs, strays, after, ◌>>=◌, ◌>>◌}
+use Rattle.own_ways.specs.Ways.{Way, gives, traps, stops, errs, strays, after, ◌>>=◌, ◌>>◌}
 use Rattle.own_runs.proofs.Related.{IsPlain, IsClosed, AreLoopsRelated, then_r, pick_r, or_stray_r, pure_r, after_turn_r, entered_r}
 use Rattle.own_runs.proofs.Growing.{state_of}
 

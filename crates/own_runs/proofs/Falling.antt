@@ -1,40 +1,23 @@
 -- A worked program whose calls go down to the last level, by induction on how many are left.
-use Rattle.std.proofs.Common.{◌≡◌, sym, append-nil, ◌∙◌, ℕ, zero, suc, ◌+◌, ◌-◌, ℤ, pos, true, false, List, [], ◌∷◌, ◌++◌, length, take, Some, None, ◌-ℤ◌, ◌≤◌, ◌<◌, ◌^◌, refl, ap, ltb, append_assoc, arith}
+use Rattle.std.proofs.Common.{◌≡◌, sym, append-nil, ◌∙◌, ℕ, zero, suc, ◌+◌, ◌-◌, ℤ, pos, true, false, List, [], ◌∷◌, ◌++◌, length, take, None, ◌-ℤ◌, ◌≤◌, ◌<◌, refl, ap, ltb, append_assoc, arith}
 use Rattle.std.proofs.lemmas.Int.{ints}
 use Rattle.std.proofs.lemmas.Bool.{lt-ltb, le-leb, lt-leb}
-use Rattle.std.proofs.Math.ListN.{length-append}
-use Rattle.std.specs.Prelude.{slice_get, slice_set, nat_le}
+use Rattle.std.specs.Prelude.{nat_le}
 use Rattle.std.specs.Fmt.{signed_decimal}
 use Rattle.own_tree.specs.declared.limits.TheConstants.{MOST_LEVELS}
 use Rattle.own_shapes.specs.Types.{types_declared}
 use Rattle.own_runs.specs.Destruction.{Passed, given}
 use Rattle.own_runs.specs.Events.{Item, printed, line, output_of}
 use Rattle.own_runs.specs.Run.{Outcome, Ended, Trapped, Behaviour, behaviour, output, start, run_to, run_of}
-use Rattle.own_runs.specs.Store.{State, TOO_MANY_LEVELS, temporary, holds, absent, Activation, with_at, root_at}
+use Rattle.own_runs.specs.Store.{State, temporary, holds, absent, Activation, with_at, root_at}
 use Rattle.own_runs.specs.Values.{Val, int, unit, hole}
-use Rattle.own_runs.specs.Ways.{Way, gives, traps}
+use Rattle.own_ways.specs.declared.traps.TheConstants.{TOO_MANY_LEVELS}
+use Rattle.own_ways.specs.Exact.{is_int}
+use Rattle.own_ways.specs.Ways.{Way, gives, traps}
+use Rattle.own_ways.proofs.Results.{int_above}
+use Rattle.own_runs.proofs.Lists.{get_last, set_last, take_last}
 use Rattle.own_runs.proofs.MoreRows.{down, no_types}
 use Rattle.own_runs.proofs.Spelled.{answer, lines}
-
--- ---- the last activation
-
-get_last : {A : Type 0} (xs : List A) (x : A) → slice_get (xs ++ x ∷ []) (length xs) ≡ Some x
-get_last [] x = refl
-get_last (y ∷ xs) x = get_last xs x
-
-set_last : {A : Type 0} (xs : List A) (x y : A) → slice_set (xs ++ x ∷ []) (length xs) y ≡ xs ++ y ∷ []
-set_last [] x y = refl
-set_last (z ∷ xs) x y = ap (λ ys. z ∷ ys) (set_last xs x y)
-
-take_all : {A : Type 0} (xs ys : List A) → take (length xs) (xs ++ ys) ≡ xs
-take_all [] ys = refl
-take_all (x ∷ xs) ys = ap (λ zs. x ∷ zs) (take_all xs ys)
-
-one_less : {A : Type 0} (xs : List A) (x : A) → length (xs ++ x ∷ []) - 1 ≡ length xs
-one_less xs x = omega (arith, length-append xs (x ∷ []))
-
-take_last : {A : Type 0} (xs : List A) (x : A) → take (length (xs ++ x ∷ []) - 1) (xs ++ x ∷ []) ≡ xs
-take_last xs x = rw (one_less xs x) (take_all xs (x ∷ []))
 
 is_greater : (k : ℕ) → ltb 1 (suc (suc k)) ≡ true
 is_greater k = lt-ltb 1 (suc (suc k)) (omega arith)
@@ -73,7 +56,7 @@ calling n m = record {
   body = 0;
   maker = None;
   slots = with_at 0 (holds (int n)) (λ x. absent);
-  temporaries = with_at 8 (int m) (with_at 1 hole (with_at 1 unit (with_at 1 hole (with_at 1 unit (with_at 2 hole (with_at 2 (int n) (λ node. hole)))))));
+  temporaries = with_at 8 (int m) (with_at 1 hole (with_at 1 unit (λ node. hole)));
   result = hole;
 }
 
@@ -99,7 +82,7 @@ one_falls : (k : ℕ) → Falls k → Falls (suc k)
 unfolding types_declared more falling
 one_falls k before x fuel level turns births input log st act waits le =
     let ok : nat_le (level + 1) MOST_LEVELS ≡ true = le-leb (level + 1) MOST_LEVELS (omega (arith, le)) in
-    let fits : ltb (suc k) (2 ^ 63) ≡ true = lt-ltb (suc k) (2 ^ 63) (omega (arith, le)) in
+    let fits : is_int (pos (suc k)) ≡ true = int_above (suc k) (omega (arith, le)) in
     let item : Item = printed (line (signed_decimal (pos (suc (suc k))))) in
     let deeper = before 8 fuel (level + 1) turns births input (log ++ item ∷ []) (st ++ given_up x act ∷ []) (calling (pos (suc (suc k))) (pos (suc k))) refl (omega (arith, le)) in
     simp (get_last, set_last, take_last, waits, ok, is_greater, less_one, fits, deeper) (simp append_assoc)
@@ -128,7 +111,7 @@ one_sinks : (j : ℕ) → Sinks j → Sinks (suc j)
 unfolding types_declared more sinking
 one_sinks j before x r fuel level turns births input log st act waits last le =
     let ok : nat_le (level + 1) MOST_LEVELS ≡ true = le-leb (level + 1) MOST_LEVELS (omega (arith, last)) in
-    let fits : ltb (suc (more j r)) (2 ^ 63) ≡ true = lt-ltb (suc (more j r)) (2 ^ 63) (omega (arith, le)) in
+    let fits : is_int (pos (suc (more j r))) ≡ true = int_above (suc (more j r)) (omega (arith, le)) in
     let n : ℕ = suc (more j r) in
     let item : Item = printed (line (signed_decimal (pos (suc n)))) in
     let deeper = before 8 r fuel (level + 1) turns births input (log ++ item ∷ []) (st ++ given_up x act ∷ []) (calling (pos (suc n)) (pos n)) refl (omega (arith, last)) (omega (arith, le)) in

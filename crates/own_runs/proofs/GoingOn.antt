@@ -10,7 +10,7 @@ use Rattle.own_runs.specs.Loops.{Flow, onward, while_turns, repeat_turns, for_tu
 use Rattle.own_runs.specs.Run.{Behaviour, behaviour, run_to, run_of, start}
 use Rattle.own_runs.specs.Store.{State, Act, turn_of}
 use Rattle.own_runs.specs.Values.{Val}
-use Rattle.own_runs.specs.Ways.{Way, gives, traps, stops, errs, strays, after, ◌>>=◌, stop}
+use Rattle.own_ways.specs.Ways.{Way, gives, traps, stops, errs, strays, after, ◌>>=◌, stop}
 use Rattle.own_runs.proofs.Related.{IsPlain, IsClosed, AreLoopsRelated, then_r, next_r, pick_r, or_stray_r, pure_r, after_turn_r, entered_r}
 use Rattle.own_runs.proofs.Growing.{log_of, front_self, front_trans, Grows, turn_grows, after_grows, grows_then, growing, while_grows, repeat_grows, for_grows, calls_grow}
 

@@ -10,7 +10,7 @@ use Rattle.own_runs.specs.Laws.{IsFront}
 use Rattle.own_runs.specs.Loops.{Flow, onward, while_turns, repeat_turns, for_turns}
 use Rattle.own_runs.specs.Run.{run_to}
 use Rattle.own_runs.specs.Store.{State, Act, turn_of}
-use Rattle.own_runs.specs.Ways.{Way, gives, traps, stops, errs, strays, after, ◌>>=◌, stop}
+use Rattle.own_ways.specs.Ways.{Way, gives, traps, stops, errs, strays, after, ◌>>=◌, stop}
 use Rattle.own_runs.proofs.Related.{IsClosed, AreLoopsRelated, then_r, next_r, pick_r, or_stray_r, pure_r, after_turn_r, entered_r}
 
 abbrev pub state_of : {A : Type 0} → Way State A → State

@@ -1,7 +1,8 @@
 pub mod Spelled
 pub mod Rows
 pub mod MoreRows
-pub mod WayRules
+pub mod Broken
+pub mod Lists
 pub mod Related
 pub mod Growing
 pub mod GoingOn

@@ -1,6 +1,7 @@
 -- Worked programs with enums, numbers and levels, run.
 use Rattle.std.specs.Prelude.{◌≡◌, refl, ℕ, ℤ, pos, neg_ℤ, true, false, List, [], ◌∷◌, Some, None, codes}
 use Rattle.std.specs.Fmt.{digits}
+use Rattle.std.specs.Int.{int_wrap}
 use Rattle.own_tree.specs.declared.arithmetic.Arith.TheVariants as arith_of
 use Rattle.own_tree.specs.declared.place.Mode.TheVariants as mode
 use Rattle.own_tree.specs.declared.place.Ty.{Ty}
@@ -11,22 +12,22 @@ use Rattle.own_tree.specs.declared.typed.Comparison.TheVariants as compare
 use Rattle.own_tree.specs.declared.typed.Passing.TheVariants as passing
 use Rattle.own_tree.specs.declared.typed.Target.TheVariants as target
 use Rattle.own_tree.specs.Source.{enum_of, cases, struct_of}
-use Rattle.own_tree.specs.TypedSource.{bind, any, of_case, pat, no_pats, TExp, truth, arithmetic, wrapping, compared, call, member, consumed, case_of, case_where, default, let_in, ignore, update, discard_self, if_then, if_else, loop_while, loop_repeat, loop_for, leave, go_on, switch, return_value, clause, no_clauses, TBody, Program, function, closure, choice, assign}
+use Rattle.own_tree.specs.TypedSource.{bind, any, of_case, pat, no_pats, TExp, truth, arithmetic, wrapping, compared, call, member, parenthesized, consumed, case_of, case_where, default, let_in, ignore, update, discard_self, if_then, if_else, loop_while, loop_repeat, loop_for, leave, go_on, switch, return_value, clause, no_clauses, TBody, Program, function, closure, choice, assign}
 use Rattle.own_shapes.specs.Types.{Types, types_declared}
 use Rattle.own_runs.specs.Run.{Outcome, Ended, Trapped, Cut, behaviour, output, run_of, run_to, start}
 use Rattle.own_runs.proofs.Spelled.{answer, traced_answer, lines, sp, node, at, in_place, path_at, p, i, v, w, exps, stms, blk, do_, say, read_int, equal, has, ends, name_at, case_with, noncopyable_struct, types_with, bound, body_with, function_body, main_body, file_decl, with_file, alone, new, f, fd, file_types, local_file, local_int}
 
 -- ---- a consuming `switch`
 
-abbrev slot : Ty
+abbrev pub slot : Ty
 slot = type.Named 1
 
-abbrev slot_types : Types
+abbrev pub slot_types : Types
 slot_types = types_with (file_decl ∷ enum_of (sp 0) (name_at (codes "Slot")) true (cases (sp 0) (
     case_with (codes "none") [] ∷ case_with (codes "one") (codes "File" ∷ []) ∷ case_with (codes "two") (codes "File" ∷ codes "File" ∷ []) ∷ []) ∷ []) ∷ [])
 
 -- its first clause asks whether the `fd` of the first file is above a number
-abbrev two_in_a_slot : ℕ → Program
+abbrev pub two_in_a_slot : ℕ → Program
 two_in_a_slot above = with_file 6 (
     function_body (7 ∷ []) type.Bool (do_ (compared (at 1 type.Bool) compare.Greater (fd 2 7) (i 3 above)) ∷ [])
     ∷ main_body (
@@ -54,7 +55,7 @@ unfolding run_of types_declared digits
 first_clause_runs = refl
 
 -- an enum that ends with its scope
-abbrev slot_ends : Program
+abbrev pub slot_ends : Program
 slot_ends = with_file 5 (
     main_body (let_in (node 1) 7 (call (at 2 slot) (target.Case 1 2) (exps (new 3 (i 4 1) ∷ new 5 (i 6 2) ∷ [])) (passing.Consume ∷ passing.Consume ∷ [])) ∷ []) ∷ [])
     (bound (codes "e") slot mode.Let 5 ∷ [])
@@ -67,7 +68,7 @@ slot_ends_runs = refl
 
 -- ---- numbers
 
-abbrev remainder : Program
+abbrev pub remainder : Program
 remainder = alone (main_body (
     let_in (node 1) 0 (read_int 2) ∷ let_in (node 3) 1 (read_int 4) ∷ say 5 (arithmetic (at 6 type.Int) arith_of.Rem (sp 64) (v 7 0 []) (v 8 1 []) ∷ []) ∷ []) ∷ [])
     (local_int (codes "a") 0 ∷ local_int (codes "b") 0 ∷ [])
@@ -99,16 +100,16 @@ input_ends : answer no_types remainder (pos 5 ∷ []) 9
 unfolding run_of types_declared digits
 input_ends = refl
 
-abbrev largest : ℕ → TExp
+abbrev pub largest : ℕ → TExp
 largest n = i n 9223372036854775807
 
-abbrev says : List TExp → Program
+abbrev pub says : List TExp → Program
 says es = alone (main_body (say 1 es ∷ []) ∷ []) []
 
 -- `&+` wraps, and truths are spelled.
 sum_wraps : answer no_types (says (wrapping (at 2 type.Int) arith_of.Add (largest 3) (i 4 1) ∷ equal 5 (truth (at 6 type.Bool) true) (truth (at 7 type.Bool) false) ∷ [])) [] 9
     ≡ (Ended, lines (codes "-9223372036854775808 false" ∷ []))
-unfolding run_of types_declared digits
+unfolding run_of types_declared digits int_wrap
 sum_wraps = refl
 
 -- All items of a `print` are evaluated before it writes.
@@ -117,7 +118,7 @@ items_before_line : answer no_types (says (i 2 1 ∷ arithmetic (at 3 type.Int) 
 unfolding run_of types_declared digits
 items_before_line = refl
 
-abbrev counts : (low high : TExp) → Program
+abbrev pub counts : (low high : TExp) → Program
 counts low high = alone (main_body (loop_for (node 1) (Some 0) low range.Closed (sp 20) high (blk (say 2 (v 3 0 [] ∷ []) ∷ [])) ∷ []) ∷ [])
     (bound (codes "i") type.Int mode.Turn 0 ∷ [])
 
@@ -156,7 +157,7 @@ unfolding run_of types_declared digits
 down_runs = refl
 
 -- the same with `main` at a level above a number of levels
-abbrev from_level : Types → Program → ℕ → List ℤ → Outcome × List ℕ
+abbrev pub from_level : Types → Program → ℕ → List ℤ → Outcome × List ℕ
 from_level types program level input = let b = behaviour (run_to types program 20 program.main None [] level (start input 19)) in (b.outcome, output b)
 
 -- Three calls reach level 1,000.
@@ -171,7 +172,7 @@ down_too_far : from_level no_types down 996 (pos 4 ∷ [])
 unfolding run_of types_declared digits
 down_too_far = refl
 
-abbrev one_file : Program
+abbrev pub one_file : Program
 one_file = with_file 5 (main_body (let_in (node 1) 7 (new 2 (i 3 1)) ∷ []) ∷ []) (local_file (codes "f") 5 ∷ [])
 
 -- The leaf that is destroyed is a level, and its `deinit` one more.
@@ -186,7 +187,7 @@ destroyed_too_far : from_level file_types one_file 998 []
 unfolding run_of types_declared digits
 destroyed_too_far = refl
 
-abbrev forever : Program
+abbrev pub forever : Program
 forever = alone (main_body (loop_while (node 1) (truth (at 2 type.Bool) true) (blk (say 3 (i 4 1 ∷ []) ∷ [])) ∷ []) ∷ []) []
 
 -- A loop without an end is cut where its turns are used up.
@@ -197,19 +198,19 @@ forever_cut = refl
 
 -- ---- `discard self`
 
-abbrev key : Ty
+abbrev pub key : Ty
 key = type.Named 0
 
-abbrev key_types : Types
+abbrev pub key_types : Types
 key_types = types_with (noncopyable_struct (codes "Key") (has (codes "n") (codes "Int") ∷ ends ∷ []) ∷ [])
 
-abbrev key_deinit : ℕ → TBody
+abbrev pub key_deinit : ℕ → TBody
 key_deinit self = body_with body.Deinitializer (Some 0) (self ∷ []) type.Unit (say 1 (w 2 (codes "key") ∷ v 3 self (0 ∷ []) ∷ []) ∷ [])
 
-abbrev new_key : ℕ → TExp
+abbrev pub new_key : ℕ → TExp
 new_key n = call (at n key) (target.Memberwise 0) (exps (i 90 4 ∷ [])) (passing.ByValue ∷ [])
 
-abbrev dropped : Program
+abbrev pub dropped : Program
 dropped = record {
   bodies =
       body_with body.Method (Some 0) (0 ∷ 1 ∷ []) type.Unit (
@@ -244,7 +245,7 @@ ignored = refl
 
 -- ---- a borrowing `switch`
 
-abbrev shown : Program
+abbrev pub shown : Program
 shown = record {
   bodies =
       body_with body.Method (Some 0) (0 ∷ []) type.Unit (
@@ -266,7 +267,7 @@ shown_runs = refl
 -- ---- values on their way
 
 -- A function that makes two keys and returns the first; `main` reads a property of what it returns.
-abbrev handed_out : Program
+abbrev pub handed_out : Program
 handed_out = record {
   bodies =
       function_body [] key (let_in (node 1) 0 (new_key 2) ∷ let_in (node 3) 1 (new_key 4) ∷ return_value (node 5) (p 6 key 0 []) ∷ [])
@@ -284,9 +285,38 @@ handed_out_runs : traced_answer key_types handed_out [] 9
 unfolding run_of types_declared digits
 handed_out_runs = refl
 
+abbrev pub pair : Ty
+pair = type.Named 0
+
+abbrev pub box : Ty
+box = type.Named 1
+
+abbrev pub box_types : Types
+box_types = types_with (
+    struct_of (sp 0) (name_at (codes "Pair")) false (has (codes "x") (codes "Int") ∷ has (codes "y") (codes "Int") ∷ [])
+    ∷ noncopyable_struct (codes "Box") (has (codes "pair") (codes "Pair") ∷ ends ∷ []) ∷ [])
+
+-- `print("at", ((Box(pair: Pair(x: 1, y: 2))).pair).y)`
+abbrev pub opened_at_once : Program
+opened_at_once = alone (
+    main_body (say 1 (
+    w 2 (codes "at")
+    ∷ member (at 3 type.Int) (parenthesized (at 4 pair) (member (at 5 pair) (parenthesized (at 6 box) (
+    call (at 7 box) (target.Memberwise 1) (exps (
+    call (at 8 pair) (target.Memberwise 0) (exps (i 9 1 ∷ i 10 2 ∷ [])) (passing.ByValue ∷ passing.ByValue ∷ []) ∷ [])) (passing.ByValue ∷ []))) 0)) 1
+    ∷ []) ∷ [])
+    ∷ body_with body.Deinitializer (Some 1) (0 ∷ []) type.Unit (say 1 (w 2 (codes "gone") ∷ []) ∷ []) ∷ [])
+    (bound (codes "self") box mode.SelfDeinit 1 ∷ [])
+
+-- A temporary ends when its property is read, before the property of that one is, and before anything is written.
+opened_runs : answer box_types opened_at_once [] 9
+    ≡ (Ended, lines (codes "gone" ∷ codes "at 2" ∷ []))
+unfolding run_of types_declared digits
+opened_runs = refl
+
 -- ---- jumps
 
-abbrev skips : Program
+abbrev pub skips : Program
 skips = alone (main_body (
     let_in (node 1) 0 (i 2 0)
     ∷ loop_repeat (node 3) (blk (
@@ -305,7 +335,7 @@ skips_run = refl
 -- ---- closures and receivers
 
 -- A closure is passed on by one function to another, which calls it twice.
-abbrev passed_on : Program
+abbrev pub passed_on : Program
 passed_on = record {
   bodies =
       function_body (0 ∷ []) type.Unit (
@@ -330,13 +360,13 @@ passed_on_runs : answer no_types passed_on [] 9
 unfolding run_of types_declared digits
 passed_on_runs = refl
 
-abbrev counter : Ty
+abbrev pub counter : Ty
 counter = type.Named 0
 
-abbrev counter_types : Types
+abbrev pub counter_types : Types
 counter_types = types_with (struct_of (sp 0) (name_at (codes "Counter")) false (has (codes "n") (codes "Int") ∷ []) ∷ [])
 
-abbrev counted : Program
+abbrev pub counted : Program
 counted = record {
   bodies =
       body_with body.Method (Some 0) (0 ∷ 1 ∷ []) type.Unit (update (node 1) (path_at 2 type.Int 0 (0 ∷ [])) arith_of.Add (sp 1) (v 3 1 []) ∷ [])

@@ -10,11 +10,11 @@ IsThere (found a) = Unit {0}
 IsThere hollow = ⊥
 IsThere nowhere = ⊥
 
-hollow_found : {A : Type 0} (a : A) → hollow ≡ found a → ⊥
+pub hollow_found : {A : Type 0} (a : A) → hollow ≡ found a → ⊥
 unfolding IsThere
 hollow_found a e = subst IsThere (sym e) tt
 
-nowhere_found : {A : Type 0} (a : A) → nowhere ≡ found a → ⊥
+pub nowhere_found : {A : Type 0} (a : A) → nowhere ≡ found a → ⊥
 unfolding IsThere
 nowhere_found a e = subst IsThere (sym e) tt
 
@@ -23,30 +23,30 @@ found_or d (found a) = a
 found_or d hollow = d
 found_or d nowhere = d
 
-found_same : {A : Type 0} (a b : A) → found a ≡ found b → a ≡ b
+pub found_same : {A : Type 0} (a b : A) → found a ≡ found b → a ≡ b
 unfolding found_or
 found_same a b e = ap (found_or a) e
 
 -- what a search that succeeds went through
-through : {A B : Type 0} (o : Found A) (next : A → Found B) (b : B) → and_then o next ≡ found b → (a : A) × (o ≡ found a) × (next a ≡ found b)
+pub through : {A B : Type 0} (o : Found A) (next : A → Found B) (b : B) → and_then o next ≡ found b → (a : A) × (o ≡ found a) × (next a ≡ found b)
 through (found a) next b e = (a, refl, e)
 through hollow next b e = absurd (hollow_found b e)
 through nowhere next b e = absurd (nowhere_found b e)
 
-if_found : {A : Type 0} (c : Bool) (o : Found A) (a : A) → (if c then o else nowhere) ≡ found a → (c ≡ true) × (o ≡ found a)
+pub if_found : {A : Type 0} (c : Bool) (o : Found A) (a : A) → (if c then o else hollow) ≡ found a → (c ≡ true) × (o ≡ found a)
 if_found true o a e = (refl, e)
-if_found false o a e = absurd (nowhere_found a e)
+if_found false o a e = absurd (hollow_found a e)
 
 -- ---- one step
 
-nth_same : (vs all : Vals) (k : ℕ) (new : Val) → with_nth vs k new ≡ found all → nth all k ≡ found new
+pub nth_same : (vs all : Vals) (k : ℕ) (new : Val) → with_nth vs k new ≡ found all → nth all k ≡ found new
 nth_same no_vals all k new e = absurd (nowhere_found all e)
 nth_same (val v vs) all zero new e = ap (λ us. nth us zero) (sym (found_same _ _ e))
 nth_same (val v vs) all (suc k) new e =
     let i = through (with_nth vs k new) (λ rest. found (val v rest)) all e in
     ap (λ us. nth us (suc k)) (sym (found_same _ _ i.2)) ∙ nth_same vs i.0 k new i.1
 
-nth_other : (vs all : Vals) (k j : ℕ) (new : Val) → (k ≡ j → ⊥) → with_nth vs k new ≡ found all → nth all j ≡ nth vs j
+pub nth_other : (vs all : Vals) (k j : ℕ) (new : Val) → (k ≡ j → ⊥) → with_nth vs k new ≡ found all → nth all j ≡ nth vs j
 nth_other no_vals all k j new ne e = absurd (nowhere_found all e)
 nth_other (val v vs) all zero zero new ne e = absurd (ne refl)
 nth_other (val v vs) all zero (suc j) new ne e = ap (λ us. nth us (suc j)) (sym (found_same _ _ e))
@@ -57,9 +57,9 @@ nth_other (val v vs) all (suc k) (suc j) new ne e =
     ap (λ us. nth us (suc j)) (sym (found_same _ _ i.2)) ∙ nth_other vs i.0 k j new (λ h. ne (ap suc h)) i.1
 
 case_same : (present c : ℕ) (all : Vals) (k : ℕ) (new : Val) → (present == c) ≡ true → nth all k ≡ found new → child (variant present all) (payload c k) ≡ found new
-case_same present c all k new is e = ap (λ b. if b then nth all k else nowhere) is ∙ e
+case_same present c all k new is e = ap (λ b. if b then nth all k else hollow) is ∙ e
 
-child_same : (v w : Val) (part : Part) (new : Val) → with_child v part new ≡ found w → child w part ≡ found new
+pub child_same : (v w : Val) (part : Part) (new : Val) → with_child v part new ≡ found w → child w part ≡ found new
 child_same (struct t n vs) w (field k) new e =
     let i = through (with_nth vs k new) (λ all. found (struct t n all)) w e in
     ap (λ u. child u (field k)) (sym (found_same _ _ i.2)) ∙ nth_same vs i.0 k new i.1
@@ -76,12 +76,12 @@ child_same unit w part new e = absurd (nowhere_found w e)
 
 -- another payload of the present case, or one of another case, which is not there before nor after
 case_other : (b : Bool) (present c d : ℕ) (vs all : Vals) (k j : ℕ) (new : Val) → (present == d) ≡ b → present ≡ c → (payload c k ≡ payload d j → ⊥) → with_nth vs k new ≡ found all
-    → (if b then nth all j else nowhere) ≡ (if b then nth vs j else nowhere)
+    → (if b then nth all j else hollow) ≡ (if b then nth vs j else hollow)
 case_other true present c d vs all k j new is p ne e =
     nth_other vs all k j new (λ h. ne (ap (λ x. payload x k) (sym p ∙ (Decides-eqb present d).0 is) ∙ ap (payload d) h)) e
 case_other false present c d vs all k j new is p ne e = refl
 
-child_other : (v w : Val) (part other : Part) (new : Val) → (part ≡ other → ⊥) → with_child v part new ≡ found w → child w other ≡ child v other
+pub child_other : (v w : Val) (part other : Part) (new : Val) → (part ≡ other → ⊥) → with_child v part new ≡ found w → child w other ≡ child v other
 child_other (struct t n vs) w (field k) (field j) new ne e =
     let i = through (with_nth vs k new) (λ all. found (struct t n all)) w e in
     ap (λ u. child u (field j)) (sym (found_same _ _ i.2)) ∙ nth_other vs i.0 k j new (λ h. ne (ap field h)) i.1

@@ -2,7 +2,7 @@
 -- loops, each run of a body is related to another run of the same body.
 use Rattle.std.proofs.Common.{◌≡◌, ℕ, zero, suc, ◌+◌, ◌-◌, Bool, true, false, List, [], ◌∷◌, ◌++◌, Option, Some, None, length, take, refl, sym}
 use Rattle.std.proofs.lemmas.List.{append-nil}
-use Rattle.std.specs.Prelude.{◌==◌, ℤ, pos, ◌+ℤ◌, ◌-ℤ◌, ◌*ℤ◌, neg_ℤ, slice_set, nat_le}
+use Rattle.std.specs.Prelude.{◌==◌, ℤ, pos, slice_set, nat_le}
 use Rattle.std.specs.Prelude.{int_lt}
 use Rattle.own_tree.specs.declared.arithmetic.Arith.{Arith}
 use Rattle.own_tree.specs.declared.arithmetic.Arith.TheVariants as arith
@@ -27,16 +27,18 @@ use Rattle.own_paths.specs.Ops.{ended, binds_twice}
 use Rattle.own_shapes.specs.Types.{Types, Shape, Shapes, Payloads, no_shapes, no_payloads, payloads, one_case_holds_tracked, copyable}
 use Rattle.own_shapes.specs.Types as shape
 use Rattle.own_paths.specs.Within.{node_of, path_of, locals}
-use Rattle.own_runs.specs.Arithmetic.{is_int, in_range, divided, compute, wrapped, compare_truths, as_int, as_bool, compare_vals}
-use Rattle.own_runs.specs.Calls.{slot_of, slots_of, value_given, values_given, spelled, item_of, items_of, note_use, lend, lend_all, construct, binding_at, shape_of_binding, declarer, owner_of, through, locate, take_value, closure_in, closure_of, give, text_of, pass_item, lend_place, pass_borrowed, pass_receiver, pass_inout, pass_closure, pass, call_closure, apply, end_lent}
-use Rattle.own_runs.specs.Destruction.{Passed, given, lent, lent_temporary, closed, words, Call, present_case, run_deinit, destroy_tracked, destroy, destroy_parts, destroy_case, end_value}
+use Rattle.own_runs.specs.Arithmetic.{compare_truths, as_int, as_bool, as_val, compare_vals}
+use Rattle.own_runs.specs.Calls.{holder, item_bytes, slot_of, slots_of, value_given, values_given, spelled, note_use, lend, lend_all, construct, binding_at, shape_of_binding, declarer, owner_of, through, locate, take_value, closure_in, closure_of, give, text_of, lend_place, pass_borrowed, pass_receiver, pass_inout, pass_closure, pass, call_closure, apply, end_lent}
+use Rattle.own_runs.specs.Destruction.{Passed, given, lent, lent_temporary, closed, Call, present_case, run_deinit, destroy_tracked, destroy, destroy_parts, destroy_case, end_value}
 use Rattle.own_runs.specs.Events.{Event, made, used, Item, happened}
 use Rattle.own_runs.specs.Loops.{Flow, onward, broke, continued, returned, then_go, after_turn, while_turns, repeat_turns, for_turns}
 use Rattle.own_runs.specs.Patterns.{chosen, bound_parts, case_shapes, end_rest, end_payloads}
-use Rattle.own_runs.specs.Run.{last_of, forget, connected, eval, eval_all, test, drop_value, assign_value, end_slot, end_all, leave_scope, subject_at, bind_as, bind_part, bind_all, holds_guard, take_apart, take_clause, run_clause, late_parts, clause_names, clause_or, exec, exec_all, exec_block, exec_turn, exec_clauses, exec_body, completed, come_back, made_self, result_value, body_value, init_slots, entry_slots, run_body, entered}
+use Rattle.own_runs.specs.Run.{last_of, forget, connected, part_of, eval, eval_all, items, test, drop_value, assign_value, end_slot, end_all, leave_scope, subject_at, bind_as, bind_part, bind_all, holds_guard, take_apart, take_clause, run_clause, late_parts, clause_names, clause_or, exec, exec_all, exec_block, exec_turn, exec_clauses, exec_body, completed, come_back, made_self, result_value, body_value, init_slots, entry_slots, run_body, entered}
 use Rattle.own_runs.specs.Store.{Root, binding, temporary, result, Location, Slot, absent, holds, refers, runs, Activation, State, Act, or_found, activation, set_activation, slot_at, set_slot, begin, finish, own_value, root_value, peek, put, read, vacate, move, hold, take_turn, take_level, log_item, note, born, read_input, first_or_zero, after_first, root_at, below}
-use Rattle.own_runs.specs.Values.{Val, int, bool, unit, struct, variant, hole, Vals, is_whole, all_whole, emptied, vacant, Part, field, payload, Found, found, hollow, nowhere, value_at, with_value_at}
-use Rattle.own_runs.specs.Ways.{◌>>=◌, ◌>>◌, pure, trap, err, stray, look, change, pick, or_stray}
+use Rattle.own_runs.specs.Values.{Val, int, bool, unit, struct, variant, hole, Vals, is_whole, all_whole, emptied, vacant, Part, field, payload, Found, found, hollow, nowhere, child, value_at, with_value_at}
+use Rattle.own_ways.specs.Arithmetic.{answered, computed, wrapped}
+use Rattle.own_ways.specs.Exact.{Exact, Gives, Fails, exact}
+use Rattle.own_ways.specs.Ways.{◌>>=◌, ◌>>◌, pure, trap, err, stray, look, change, pick, or_stray}
 
 -- what does not hang on the turns that are left
 abbrev pub IsTurnless : {A : Type 0} → (State → A) → Type 0
@@ -160,27 +162,23 @@ module _ (Rel : (A : Type 0) → Act A → Act A → Type 0) (closed_ : IsClosed
 
   -- ---- arithmetic
 
-  pub in_range_r : (at : ℕ) (n : ℤ) → Rel _ (in_range at n) (in_range at n)
-  in_range_r at n = pick_r (is_int n) (pure_r _) (closed_.traps_ 1 at)
+  pub answered_r : (at : ℕ) (e : Exact) → Rel ℤ (answered at e) (answered at e)
+  answered_r at (Gives n) = pure_r n
+  answered_r at (Fails code) = closed_.traps_ code at
 
-  pub divided_r : (at : ℕ) (a b : ℤ) (q : Val) → Rel _ (divided at a b q) (divided at a b q)
-  divided_r at a b q = pick_r _ (closed_.traps_ 2 at) (pick_r _ (closed_.traps_ 1 at) (pure_r q))
+  pub computed_r : (o : Arith) (at : ℕ) (a b : ℤ) → Rel ℤ (computed o at a b) (computed o at a b)
+  computed_r o at a b = answered_r at (exact o a b)
 
-  pub compute_r : (o : Arith) (at : ℕ) (a b : ℤ) → Rel _ (compute o at a b) (compute o at a b)
-  compute_r arith.Add at a b = in_range_r at (a +ℤ b)
-  compute_r arith.Sub at a b = in_range_r at (a -ℤ b)
-  compute_r arith.Mul at a b = in_range_r at (a *ℤ b)
-  compute_r arith.Div at a b = divided_r at a b _
-  compute_r arith.Rem at a b = divided_r at a b _
-  compute_r arith.Neg at a b = in_range_r at (neg_ℤ a)
-
-  pub wrapped_r : (o : Arith) (a b : ℤ) → Rel _ (wrapped o a b) (wrapped o a b)
+  pub wrapped_r : (o : Arith) (a b : ℤ) → Rel ℤ (wrapped o a b) (wrapped o a b)
   wrapped_r arith.Add a b = pure_r _
   wrapped_r arith.Sub a b = pure_r _
   wrapped_r arith.Mul a b = pure_r _
   wrapped_r arith.Div a b = closed_.strays_
   wrapped_r arith.Rem a b = closed_.strays_
   wrapped_r arith.Neg a b = closed_.strays_
+
+  pub as_val_r : {p q : Act ℤ} → Rel ℤ p q → Rel _ (as_val p) (as_val q)
+  as_val_r h = then_r h (λ n. pure_r (int n))
 
   pub truths_r : (o : Comparison) (a b : Bool) → Rel _ (compare_truths o a b) (compare_truths o a b)
   truths_r compare.Equal a b = pure_r _
@@ -218,7 +216,6 @@ module _ (Rel : (A : Type 0) → Act A → Act A → Type 0) (closed_ : IsClosed
   slot_of_r (lent l) = pure_r _
   slot_of_r (lent_temporary s l) = pure_r _
   slot_of_r (closed body maker) = pure_r _
-  slot_of_r (words bytes) = closed_.strays_
 
   pub slots_of_r : (xs : List ℕ) (ps : List Passed) → Rel _ (slots_of xs ps) (slots_of xs ps)
   slots_of_r [] [] = pure_r _
@@ -231,7 +228,6 @@ module _ (Rel : (A : Type 0) → Act A → Act A → Type 0) (closed_ : IsClosed
   value_given_r (lent l) = closed_.strays_
   value_given_r (lent_temporary s l) = closed_.strays_
   value_given_r (closed body maker) = closed_.strays_
-  value_given_r (words bytes) = closed_.strays_
 
   pub values_given_r : (ps : List Passed) → Rel _ (values_given ps) (values_given ps)
   values_given_r [] = pure_r _
@@ -245,16 +241,9 @@ module _ (Rel : (A : Type 0) → Act A → Act A → Type 0) (closed_ : IsClosed
   spelled_r (variant present vs) = closed_.strays_
   spelled_r hole = closed_.strays_
 
-  pub item_of_r : (p : Passed) → Rel _ (item_of p) (item_of p)
-  item_of_r (words bytes) = pure_r bytes
-  item_of_r (given l) = then_r (move_r l) spelled_r
-  item_of_r (lent l) = closed_.strays_
-  item_of_r (lent_temporary s l) = closed_.strays_
-  item_of_r (closed body maker) = closed_.strays_
-
-  pub items_of_r : (ps : List Passed) → Rel _ (items_of ps) (items_of ps)
-  items_of_r [] = pure_r []
-  items_of_r (p ∷ ps) = then_r (item_of_r p) (λ first. then_r (items_of_r ps) (λ rest. pure_r _))
+  pub item_bytes_r : (o : Option (List ℕ)) {p q : Act Val} → Rel _ p q → Rel _ (item_bytes o p) (item_bytes o q)
+  item_bytes_r (Some bytes) h = pure_r bytes
+  item_bytes_r None h = then_r h spelled_r
 
   pub note_use_r : (v : Val) → Rel _ (note_use v) (note_use v)
   note_use_r (struct type (Some i) vs) = note_r (used type i)
@@ -270,7 +259,6 @@ module _ (Rel : (A : Type 0) → Act A → Act A → Type 0) (closed_ : IsClosed
   lend_r (lent_temporary s l) = then_r (read_r l) note_use_r
   lend_r (given l) = pure_r tt
   lend_r (closed body maker) = pure_r tt
-  lend_r (words bytes) = pure_r tt
 
   pub lend_all_r : (ps : List Passed) → Rel _ (lend_all ps) (lend_all ps)
   lend_all_r [] = pure_r tt
@@ -340,7 +328,7 @@ module _ (Rel : (A : Type 0) → Act A → Act A → Type 0) (closed_ : IsClosed
 
     pub result_r : (me : ℕ) (b : Bool) → Rel _ (result_value types program me b) (result_value types program me b)
     result_r me false = pure_r unit
-    result_r me true = then_r (peek_r (root_at me result)) (λ v. pick_r (is_whole v) (pure_r v) closed_.strays_)
+    result_r me true = read_r (root_at me result)
 
     pub body_value_r : (me : ℕ) (b : TBody) (k : BodyKind) → Rel _ (body_value types program me b k) (body_value types program me b k)
     body_value_r me b kind.Initializer = made_self_r me b.params
@@ -452,18 +440,14 @@ module _ (Rel : (A : Type 0) → Act A → Act A → Type 0) (closed_ : IsClosed
       closure_of_r x = then_r (owner_r x) (λ a. then_r (slot_r a x) closure_in_r)
 
       pub give_r : (e : TExp) {p q : Act Val} → Rel _ p q → Rel _ (give types program run me level e p) (give types program run' me level e q)
-      give_r e h = then_r (then_r h (λ v. hold_r me (node_of e) v)) (λ l. pure_r _)
-
-      pub pass_item_r : (o : Option (List ℕ)) (e : TExp) {p q : Act Val} → Rel _ p q → Rel _ (pass_item types program run me level o e p) (pass_item types program run' me level o e q)
-      pass_item_r (Some bytes) e h = pure_r _
-      pass_item_r None e h = give_r e h
+      give_r e h = then_r (then_r h (λ v. hold_r me (holder e) v)) (λ l. pure_r _)
 
       pub lend_place_r : (p : TypedPath) → Rel _ (lend_place types program run me level p) (lend_place types program run' me level p)
       lend_place_r p = then_r (locate_r p.place) (λ l. pure_r _)
 
       pub pass_borrowed_r : (o : Option TypedPath) (e : TExp) {p q : Act Val} → Rel _ p q → Rel _ (pass_borrowed types program run me level o e p) (pass_borrowed types program run' me level o e q)
       pass_borrowed_r (Some p) e h = lend_place_r p
-      pass_borrowed_r None e h = then_r (then_r h (λ v. hold_r me (node_of e) v)) (λ l. pure_r _)
+      pass_borrowed_r None e h = then_r (then_r h (λ v. hold_r me (holder e) v)) (λ l. pure_r _)
 
       pub pass_receiver_r : (o : Option TypedPath) → Rel _ (pass_receiver types program run me level o) (pass_receiver types program run' me level o)
       pass_receiver_r (Some p) = lend_place_r p
@@ -479,7 +463,7 @@ module _ (Rel : (A : Type 0) → Act A → Act A → Type 0) (closed_ : IsClosed
       pass_closure_r e = closed_.strays_
 
       pub pass_r : (how : Passing) (e : TExp) {p q : Act Val} → Rel _ p q → Rel _ (pass types program run me level how e p) (pass types program run' me level how e q)
-      pass_r passing.ByValue e h = pass_item_r (text_of e) e h
+      pass_r passing.ByValue e h = give_r e h
       pass_r passing.Consume e h = give_r e h
       pass_r passing.Borrow e h = pass_borrowed_r (path_of e) e h
       pass_r passing.Inout e h = pass_inout_r e
@@ -490,7 +474,6 @@ module _ (Rel : (A : Type 0) → Act A → Act A → Type 0) (closed_ : IsClosed
       call_closure_r (given l) ps = closed_.strays_
       call_closure_r (lent l) ps = closed_.strays_
       call_closure_r (lent_temporary s l) ps = closed_.strays_
-      call_closure_r (words bytes) ps = closed_.strays_
 
       pub apply_r : (to : Target) (ps : List Passed) → Rel _ (apply types program run me level to ps) (apply types program run' me level to ps)
       apply_r (target.Function body) ps = calls body None ps level
@@ -499,7 +482,7 @@ module _ (Rel : (A : Type 0) → Act A → Act A → Type 0) (closed_ : IsClosed
       apply_r (target.Memberwise t) ps = then_r (values_given_r ps) (λ vs. construct_r _ t vs)
       apply_r (target.Case t present) ps = then_r (values_given_r ps) (λ vs. pure_r _)
       apply_r (target.Closure x) ps = then_r (closure_of_r x) (λ c. call_closure_r c ps)
-      apply_r target.Print ps = then_r (items_of_r ps) (λ items. next_r (log_r _) (pure_r unit))
+      apply_r target.Print ps = closed_.strays_
       apply_r target.ReadInt [] = read_input_r
       apply_r target.ReadInt (p ∷ ps) = closed_.strays_
 
@@ -509,9 +492,14 @@ module _ (Rel : (A : Type 0) → Act A → Act A → Type 0) (closed_ : IsClosed
       end_lent_r (given l ∷ ps) = end_lent_r ps
       end_lent_r (lent l ∷ ps) = end_lent_r ps
       end_lent_r (closed body maker ∷ ps) = end_lent_r ps
-      end_lent_r (words bytes ∷ ps) = end_lent_r ps
 
       -- ---- expressions
+
+      pub part_of_r : (b : Bool) (at : At) (e : TExp) (k : ℕ) {p q : Act Val} → Rel _ p q → Rel _ (part_of types program run me level b at e k p) (part_of types program run' me level b at e k q)
+      part_of_r true at e k h = then_r h (λ v. or_found_r (child v (field k)))
+      part_of_r false at e k h =
+          then_r (then_r h (λ v. hold_r me (holder e) v)) (λ l.
+          then_r (then_r (read_r (below l (field k ∷ []))) (λ v. hold_r me at v)) (λ to. next_r (end_value_r (types.shape (node_of e).ty) l level) (move_r to)))
 
       mutual
         pub eval_r : (e : TExp) → Rel _ (eval types program run me level e) (eval types program run' me level e)
@@ -521,19 +509,18 @@ module _ (Rel : (A : Type 0) → Act A → Act A → Type 0) (closed_ : IsClosed
         eval_r (path p) = take_value_r p
         eval_r (parenthesized at e) = eval_r e
         eval_r (consumed at p) = then_r (locate_r p.place) move_r
-        eval_r (negated at mark e) = then_r (then_r (eval_r e) as_int_r) (λ n. compute_r arith.Neg mark.start n (pos 0))
+        eval_r (negated at mark e) = then_r (then_r (eval_r e) as_int_r) (λ n. as_val_r (computed_r arith.Neg mark.start (pos 0) n))
         eval_r (inverted at e) = then_r (then_r (eval_r e) as_bool_r) (λ b. pure_r _)
         eval_r (arithmetic at o mark a b) =
-            then_r (then_r (eval_r a) as_int_r) (λ x. then_r (then_r (eval_r b) as_int_r) (λ y. compute_r o mark.start x y))
+            then_r (then_r (eval_r a) as_int_r) (λ x. then_r (then_r (eval_r b) as_int_r) (λ y. as_val_r (computed_r o mark.start x y)))
         eval_r (wrapping at o a b) =
-            then_r (then_r (eval_r a) as_int_r) (λ x. then_r (then_r (eval_r b) as_int_r) (λ y. wrapped_r o x y))
+            then_r (then_r (eval_r a) as_int_r) (λ x. then_r (then_r (eval_r b) as_int_r) (λ y. as_val_r (wrapped_r o x y)))
         eval_r (compared at o a b) = then_r (eval_r a) (λ x. then_r (eval_r b) (λ y. compare_r o x y))
         eval_r (logic at o a b) =
             then_r (then_r (eval_r a) as_bool_r) (λ x. connected_r o x (then_r (then_r (eval_r b) as_bool_r) (λ y. pure_r _)))
         eval_r (choice at c a b) = then_r (then_r (eval_r c) as_bool_r) (λ x. pick_r x (eval_r a) (eval_r b))
-        eval_r (member at e k) =
-            then_r (then_r (eval_r e) (λ v. hold_r me (node_of e) v)) (λ l.
-            then_r (read_r (below l (field k ∷ []))) (λ v. next_r (end_value_r (types.shape (node_of e).ty) l level) (pure_r v)))
+        eval_r (member at e k) = part_of_r (copyable (types.shape (node_of e).ty)) at e k (eval_r e)
+        eval_r (call at target.Print es passings) = then_r (items_r es) (λ bytes. next_r (log_r _) (pure_r unit))
         eval_r (call at to es passings) =
             then_r (eval_all_r es passings) (λ ps.
             then_r (then_r (next_r (lend_all_r ps) (apply_r to ps)) (λ v. hold_r me at v)) (λ l. next_r (end_lent_r ps) (move_r l)))
@@ -547,15 +534,19 @@ module _ (Rel : (A : Type 0) → Act A → Act A → Type 0) (closed_ : IsClosed
         eval_all_r no_exps (p ∷ ps) = closed_.strays_
         eval_all_r (exp e es) [] = closed_.strays_
 
+        pub items_r : (es : TExps) → Rel _ (items types program run me level es) (items types program run' me level es)
+        items_r no_exps = pure_r []
+        items_r (exp e es) = then_r (item_bytes_r (text_of e) (eval_r e)) (λ first. then_r (items_r es) (λ rest. pure_r _))
+
       pub test_r : (e : TExp) → Rel _ (test types program run me level e) (test types program run' me level e)
       test_r e = then_r (eval_r e) as_bool_r
 
       pub drop_value_r : (e : TExp) → Rel _ (drop_value types program run me level e) (drop_value types program run' me level e)
-      drop_value_r e = then_r (then_r (eval_r e) (λ v. hold_r me (node_of e) v)) (λ l. end_value_r (types.shape (node_of e).ty) l level)
+      drop_value_r e = then_r (then_r (eval_r e) (λ v. hold_r me (holder e) v)) (λ l. end_value_r (types.shape (node_of e).ty) l level)
 
       pub assign_value_r : (p : TypedPath) (e : TExp) → Rel _ (assign_value types program run me level p e) (assign_value types program run' me level p e)
       assign_value_r p e =
-          then_r (then_r (eval_r e) (λ v. hold_r me (node_of e) v)) (λ from.
+          then_r (then_r (eval_r e) (λ v. hold_r me (holder e) v)) (λ from.
           then_r (locate_r p.place) (λ l. then_r (next_r (end_value_r (types.shape p.at.ty) l level) (move_r from)) (λ v. put_r l v)))
 
       -- ---- scopes and clauses
@@ -575,8 +566,8 @@ module _ (Rel : (A : Type 0) → Act A → Act A → Type 0) (closed_ : IsClosed
 
       pub subject_at_r : (b : Bool) (p : Option TypedPath) (e : TExp) → Rel _ (subject_at types program run me level b p e) (subject_at types program run' me level b p e)
       subject_at_r false (Some p) e = then_r (locate_r p.place) (λ l. next_r (read_r l) (pure_r l))
-      subject_at_r false None e = then_r (eval_r e) (λ v. hold_r me (node_of e) v)
-      subject_at_r true p e = then_r (eval_r e) (λ v. hold_r me (node_of e) v)
+      subject_at_r false None e = then_r (eval_r e) (λ v. hold_r me (holder e) v)
+      subject_at_r true p e = then_r (eval_r e) (λ v. hold_r me (holder e) v)
 
       pub bind_as_r : (m : Mode) (b : Bool) (x : ℕ) (l : Location) → Rel _ (bind_as types program run me level m b x l) (bind_as types program run' me level m b x l)
       bind_as_r mode.PatternBorrowed b x l = set_slot_r me x (refers l)
@@ -626,7 +617,7 @@ module _ (Rel : (A : Type 0) → Act A → Act A → Type 0) (closed_ : IsClosed
           exec_r (assign at p e) = next_r (assign_value_r p e) (pure_r _)
           exec_r (update at p o mark e) =
               then_r (then_r (eval_r e) as_int_r) (λ y. then_r (locate_r p.place) (λ l.
-              then_r (then_r (read_r l) as_int_r) (λ x. next_r (then_r (compute_r o mark.start x y) (λ v. put_r l v)) (pure_r _))))
+              then_r (then_r (read_r l) as_int_r) (λ x. next_r (then_r (as_val_r (computed_r o mark.start x y)) (λ v. put_r l v)) (pure_r _))))
           exec_r (discard_self at p) = next_r (then_r (then_r (locate_r p) move_r) forget_r) (pure_r _)
           exec_r (if_then at c a) = then_r (test_r c) (λ b. pick_r b (exec_block_r a) (pure_r _))
           exec_r (if_else at c a b) = then_r (test_r c) (λ x. pick_r x (exec_block_r a) (exec_block_r b))
@@ -655,7 +646,7 @@ module _ (Rel : (A : Type 0) → Act A → Act A → Type 0) (closed_ : IsClosed
           exec_turn_r (Some x) n (block at ss) = then_r (next_r (set_slot_r me x (holds (int n))) (exec_all_r ss)) (λ f. leave_scope_r (x ∷ locals ss) f)
 
           pub exec_clauses_r : (cs : TClauses) (e : TExp) (l : Location) → Rel _ (exec_clauses types program run me level depth cs e l) (exec_clauses types program run' me level depth' cs e l)
-          exec_clauses_r no_clauses e l = closed_.strays_
+          exec_clauses_r no_clauses e l = closed_.errs_
           exec_clauses_r (clause span head ss cs) e l =
               then_r (peek_r l) (λ v. then_r (or_found_r (chosen head v)) (λ p.
               clause_or_r e head p l (clause_names (binds_twice types program e) head ++ locals ss) (exec_all_r ss) (exec_clauses_r cs e l)))

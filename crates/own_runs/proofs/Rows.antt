@@ -27,7 +27,7 @@ two_files_run : answer file_types two_files [] 20
 unfolding run_of types_declared digits
 two_files_run = refl
 
-abbrev taken_on_one_side : Program
+abbrev pub taken_on_one_side : Program
 taken_on_one_side = with_file 5 (
     main_body (
     let_in (node 1) 7 (new 2 (i 3 1)) ∷ if_then (node 4) (equal 5 (read_int 6) (i 7 1)) (blk (take_ 8 (f 9 7) ∷ []))
@@ -63,7 +63,7 @@ taken_cut : traced_answer file_types taken_on_one_side (pos 1 ∷ []) 2
 unfolding run_of types_declared digits
 taken_cut = refl
 
-abbrev made_again_in_a_loop : Program
+abbrev pub made_again_in_a_loop : Program
 made_again_in_a_loop = with_file 5 (
     main_body (
     let_in (node 1) 7 (new 2 (i 3 1)) ∷ let_in (node 4) 8 (i 5 0)
@@ -81,13 +81,13 @@ made_again_runs = refl
 
 -- ---- parts of structs
 
-abbrev pair : Ty
+abbrev pub pair : Ty
 pair = type.Named 1
 
-abbrev pair_types : Types
+abbrev pub pair_types : Types
 pair_types = types_with (file_decl ∷ noncopyable_struct (codes "Pair") (has (codes "a") (codes "File") ∷ has (codes "b") (codes "File") ∷ []) ∷ [])
 
-abbrev parts_move : Program
+abbrev pub parts_move : Program
 parts_move = with_file 6 (
     function_body (7 ∷ []) type.Unit (say 1 (v 2 7 (0 ∷ 0 ∷ []) ∷ v 3 7 (1 ∷ 0 ∷ []) ∷ []) ∷ [])
     ∷ main_body (
@@ -103,7 +103,7 @@ parts_run : answer pair_types parts_move [] 30
 unfolding run_of types_declared digits
 parts_run = refl
 
-abbrev swapped : Program
+abbrev pub swapped : Program
 swapped = with_file 6 (
     function_body (7 ∷ 8 ∷ []) type.Unit (
     let_in (node 1) 9 (f 2 7) ∷ assign (node 3) (path_at 4 (type.Named 0) 7 []) (f 5 8)
@@ -121,10 +121,10 @@ swapped_runs : answer pair_types swapped [] 30
 unfolding run_of types_declared digits
 swapped_runs = refl
 
-abbrev held_types : Types
+abbrev pub held_types : Types
 held_types = types_with (file_decl ∷ noncopyable_struct (codes "Held") (has (codes "a") (codes "File") ∷ ends ∷ []) ∷ [])
 
-abbrev held : Program
+abbrev pub held : Program
 held = with_file 6 (
     body_with body.Deinitializer (Some 1) (7 ∷ []) type.Unit (say 1 (w 2 (codes "held") ∷ []) ∷ [])
     ∷ main_body (let_in (node 1) 8 (call (at 2 pair) (target.Memberwise 1) (exps (new 3 (i 4 1) ∷ [])) (passing.Consume ∷ [])) ∷ []) ∷ [])
@@ -138,7 +138,7 @@ held_runs = refl
 
 -- ---- closures
 
-abbrev each_of : Program
+abbrev pub each_of : Program
 each_of = with_file 6 (
     function_body (7 ∷ 8 ∷ []) type.Unit (
     loop_for (node 1) (Some 9) (i 2 0) range.HalfOpen (sp 3) (v 4 7 [])
@@ -160,7 +160,7 @@ each_runs = refl
 
 -- ---- temporaries
 
-abbrev temporary_is_lent : Program
+abbrev pub temporary_is_lent : Program
 temporary_is_lent = with_file 5 (main_body (write_ 1 (new 2 (i 3 4)) (i 4 1) ∷ []) ∷ []) []
 
 -- A temporary that a call borrows is destroyed when the call has returned.
@@ -177,7 +177,7 @@ temporary_traced = refl
 
 -- ---- holes
 
-abbrev used_after_consumed : Program
+abbrev pub used_after_consumed : Program
 used_after_consumed = with_file 5 (
     main_body (let_in (node 1) 7 (new 2 (i 3 1)) ∷ take_ 4 (f 5 7) ∷ write_ 6 (f 7 7) (i 8 1) ∷ []) ∷ []) (local_file (codes "f") 5 ∷ [])
 
@@ -188,7 +188,7 @@ unfolding run_of types_declared digits
 used_after_consumed_runs = refl
 
 -- `q` is consumed, and then its property is assigned
-abbrev written_below : Program
+abbrev pub written_below : Program
 written_below = with_file 6 (
     body_with body.Deinitializer (Some 1) (7 ∷ []) type.Unit (say 1 (w 2 (codes "held") ∷ []) ∷ [])
     ∷ main_body (
@@ -202,7 +202,7 @@ written_below_runs : answer held_types written_below [] 30
 unfolding run_of types_declared digits
 written_below_runs = refl
 
-abbrev taken_out_of : Program
+abbrev pub taken_out_of : Program
 taken_out_of = with_file 6 (
     body_with body.Deinitializer (Some 1) (7 ∷ []) type.Unit (say 1 (w 2 (codes "held") ∷ []) ∷ [])
     ∷ main_body (
@@ -216,7 +216,7 @@ taken_out_of_runs : answer held_types taken_out_of [] 30
 unfolding run_of types_declared digits
 taken_out_of_runs = refl
 
-abbrev made_without : Program
+abbrev pub made_without : Program
 made_without = with_file 6 (
     body_with body.Initializer (Some 0) (7 ∷ []) type.Unit (say 1 (w 2 (codes "made") ∷ []) ∷ [])
     ∷ main_body (let_in (node 1) 8 (call (at 2 (type.Named 0)) (target.Init 5) (exps []) []) ∷ []) ∷ [])
@@ -228,7 +228,7 @@ made_without_runs : answer file_types made_without [] 30
 unfolding run_of types_declared digits
 made_without_runs = refl
 
-abbrev two_end : Program
+abbrev pub two_end : Program
 two_end = with_file 5 (main_body (let_in (node 1) 7 (new 2 (i 3 1)) ∷ let_in (node 4) 8 (new 5 (i 6 2)) ∷ []) ∷ [])
     (local_file (codes "a") 5 ∷ local_file (codes "b") 5 ∷ [])
 

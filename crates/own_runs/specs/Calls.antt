@@ -4,6 +4,7 @@ use Rattle.std.specs.Fmt.{signed_decimal}
 use Rattle.own_tree.specs.declared.place.Binding.{Binding}
 use Rattle.own_tree.specs.declared.place.Place.{Place}
 use Rattle.own_tree.specs.declared.place.Ty.TheVariants as type
+use Rattle.own_tree.specs.declared.typed.At.{At}
 use Rattle.own_tree.specs.declared.typed.Passing.{Passing}
 use Rattle.own_tree.specs.declared.typed.Passing.TheVariants as passing
 use Rattle.own_tree.specs.declared.typed.Target.{Target}
@@ -12,11 +13,11 @@ use Rattle.own_tree.specs.declared.typed.TypedPath.{TypedPath}
 use Rattle.own_tree.specs.TypedSource.{TExp, text, parenthesized, address, closure, function, Program}
 use Rattle.own_shapes.specs.Types.{Types, Shape, is_copyable, tracked}
 use Rattle.own_paths.specs.Within.{node_of, path_of}
-use Rattle.own_runs.specs.Destruction.{Passed, given, lent, lent_temporary, closed, words, Call, end_value}
-use Rattle.own_runs.specs.Events.{used, printed, line}
-use Rattle.own_runs.specs.Store.{binding, Location, Slot, absent, holds, refers, runs, Act, activation, with_at, slot_at, read, move, below, hold, note, log_item, born, read_input}
+use Rattle.own_runs.specs.Destruction.{Passed, given, lent, lent_temporary, closed, Call, end_value}
+use Rattle.own_runs.specs.Events.{used}
+use Rattle.own_runs.specs.Store.{binding, Location, Slot, absent, holds, refers, runs, Act, activation, with_at, slot_at, read, move, below, hold, note, born, read_input}
 use Rattle.own_runs.specs.Values.{Val, int, bool, unit, struct, variant, hole, Vals, no_vals, val, field}
-use Rattle.own_runs.specs.Ways.{◌>>=◌, ◌>>◌, pure, stray, pick, or_stray}
+use Rattle.own_ways.specs.Ways.{◌>>=◌, ◌>>◌, pure, stray, pick, or_stray}
 
 -- ---- what is passed
 
@@ -26,7 +27,6 @@ slot_of (given l) = move l >>= λ v. pure (holds v)
 slot_of (lent l) = pure (refers l)
 slot_of (lent_temporary s l) = pure (refers l)
 slot_of (closed body maker) = pure (runs body maker)
-slot_of (words bytes) = stray
 
 -- the bindings of the parameters
 abbrev pub slots_of : List ℕ → List Passed → Act (ℕ → Slot)
@@ -40,7 +40,6 @@ value_given (given l) = move l
 value_given (lent l) = stray
 value_given (lent_temporary s l) = stray
 value_given (closed body maker) = stray
-value_given (words bytes) = stray
 
 -- the parts of a construction
 abbrev pub values_given : List Passed → Act Vals
@@ -61,16 +60,16 @@ spelled (struct type number vs) = stray
 spelled (variant present vs) = stray
 spelled hole = stray
 
-abbrev pub item_of : Passed → Act (List ℕ)
-item_of (words bytes) = pure bytes
-item_of (given l) = move l >>= spelled
-item_of (lent l) = stray
-item_of (lent_temporary s l) = stray
-item_of (closed body maker) = stray
+-- a text, which stands only in a `print`, also in parentheses
+abbrev pub text_of : TExp → Option (List ℕ)
+text_of (text at bytes) = Some bytes
+text_of (parenthesized at e) = text_of e
+text_of e = None
 
-abbrev pub items_of : List Passed → Act (List (List ℕ))
-items_of [] = pure []
-items_of (p ∷ ps) = item_of p >>= λ first. items_of ps >>= λ rest. pure (first ∷ rest)
+-- an item is a text or a value
+abbrev pub item_bytes : Option (List ℕ) → Act Val → Act (List ℕ)
+item_bytes (Some bytes) value = pure bytes
+item_bytes None value = value >>= spelled
 
 -- one space between two items
 abbrev pub spaced : List (List ℕ) → List ℕ
@@ -96,7 +95,6 @@ lend (lent l) = read l >>= note_use
 lend (lent_temporary s l) = read l >>= note_use
 lend (given l) = pure tt
 lend (closed body maker) = pure tt
-lend (words bytes) = pure tt
 
 -- in order of the arguments, after all of them were evaluated
 abbrev pub lend_all : List Passed → Act (Unit {0})
@@ -110,11 +108,10 @@ abbrev pub construct : Bool → ℕ → Vals → Act Val
 construct true type fields = born type fields
 construct false type fields = pure (struct type None fields)
 
--- a text, which stands only in a `print`, also in parentheses
-abbrev pub text_of : TExp → Option (List ℕ)
-text_of (text at bytes) = Some bytes
-text_of (parenthesized at e) = text_of e
-text_of e = None
+-- the node at which a value waits: parentheses have none of their own
+abbrev pub holder : TExp → At
+holder (parenthesized at e) = holder e
+holder e = node_of e
 
 module _ (types : Types) (program : Program) (run : Call) (me level : ℕ) where
   -- ---- names
@@ -162,12 +159,7 @@ module _ (types : Types) (program : Program) (run : Call) (me level : ℕ) where
   -- ---- how an argument is passed
 
   abbrev pub give : TExp → Act Val → Act Passed
-  give e value = value >>= hold me (node_of e) >>= λ l. pure (given l)
-
-  -- a text, or a value
-  abbrev pub pass_item : Option (List ℕ) → TExp → Act Val → Act Passed
-  pass_item (Some bytes) e value = pure (words bytes)
-  pass_item None e value = give e value
+  give e value = value >>= hold me (holder e) >>= λ l. pure (given l)
 
   abbrev pub lend_place : TypedPath → Act Passed
   lend_place p = locate p.place >>= λ l. pure (lent l)
@@ -175,7 +167,7 @@ module _ (types : Types) (program : Program) (run : Call) (me level : ℕ) where
   -- What is no place is a temporary for the call.
   abbrev pub pass_borrowed : Option TypedPath → TExp → Act Val → Act Passed
   pass_borrowed (Some p) e value = lend_place p
-  pass_borrowed None e value = value >>= hold me (node_of e) >>= λ l. pure (lent_temporary (types.shape (node_of e).ty) l)
+  pass_borrowed None e value = value >>= hold me (holder e) >>= λ l. pure (lent_temporary (types.shape (node_of e).ty) l)
 
   -- the receiver of a mutating method is a path without `&`
   abbrev pub pass_receiver : Option TypedPath → Act Passed
@@ -193,7 +185,7 @@ module _ (types : Types) (program : Program) (run : Call) (me level : ℕ) where
   pass_closure e = stray
 
   abbrev pub pass : Passing → TExp → Act Val → Act Passed
-  pass passing.ByValue e value = pass_item (text_of e) e value
+  pass passing.ByValue e value = give e value
   pass passing.Consume e value = give e value
   pass passing.Borrow e value = pass_borrowed (path_of e) e value
   pass passing.Inout e value = pass_inout e
@@ -206,7 +198,6 @@ module _ (types : Types) (program : Program) (run : Call) (me level : ℕ) where
   call_closure (given l) ps = stray
   call_closure (lent l) ps = stray
   call_closure (lent_temporary s l) ps = stray
-  call_closure (words bytes) ps = stray
 
   abbrev pub apply : Target → List Passed → Act Val
   apply (target.Function body) ps = run body None ps level
@@ -215,7 +206,8 @@ module _ (types : Types) (program : Program) (run : Call) (me level : ℕ) where
   apply (target.Memberwise t) ps = values_given ps >>= construct (tracked (types.shape (type.Named t))) t
   apply (target.Case t present) ps = values_given ps >>= λ vs. pure (variant present vs)
   apply (target.Closure x) ps = closure_of x >>= λ c. call_closure c ps
-  apply target.Print ps = items_of ps >>= λ items. log_item (printed (line (spaced items))) >> pure unit
+  -- its items are no arguments
+  apply target.Print ps = stray
   apply target.ReadInt [] = read_input
   apply target.ReadInt (p ∷ ps) = stray
 
@@ -226,4 +218,3 @@ module _ (types : Types) (program : Program) (run : Call) (me level : ℕ) where
   end_lent (given l ∷ ps) = end_lent ps
   end_lent (lent l ∷ ps) = end_lent ps
   end_lent (closed body maker ∷ ps) = end_lent ps
-  end_lent (words bytes ∷ ps) = end_lent ps

@@ -8,16 +8,15 @@ use Rattle.own_shapes.specs.Types as shape
 use Rattle.own_runs.specs.Events.{ended_by_deinit}
 use Rattle.own_runs.specs.Store.{Location, Act, peek, put, vacate, below, take_level, note}
 use Rattle.own_runs.specs.Values.{Val, int, bool, unit, struct, variant, hole, all_whole, Part, field, payload}
-use Rattle.own_runs.specs.Ways.{◌>>=◌, ◌>>◌, pure, err, stray, pick, or_stray}
+use Rattle.own_ways.specs.Ways.{◌>>=◌, ◌>>◌, pure, err, stray, pick, or_stray}
 
 -- What an argument is for its callee: a value that is given away and waits at a place; a place that is lent; one
--- that is lent for the call alone, and holds a temporary of this shape; a closure; or a text.
+-- that is lent for the call alone, and holds a temporary of this shape; or a closure.
 pub data Passed : Type 0 where
   given : Location → Passed
   lent : Location → Passed
   lent_temporary : Shape → Location → Passed
   closed : (body maker : ℕ) → Passed
-  words : List ℕ → Passed
 
 -- A call of a body: its number; the activation that made it, if it is a closure; what is passed; and the level that
 -- calls. It gives the body's result.

@@ -6,7 +6,7 @@ use Rattle.own_runs.specs.Once.{life, IsLife, IsMade, HasEnd, IsUntouched, EndsO
 use Rattle.own_runs.specs.Run.{Behaviour, Ended, Cut, Wrong, output, traced_output, events, behaviour, run_to, start, run_of}
 use Rattle.own_runs.specs.Store.{State}
 use Rattle.own_runs.specs.Values.{Val, Part, found, value_at, with_value_at}
-use Rattle.own_runs.specs.Ways.{stops}
+use Rattle.own_ways.specs.Ways.{stops}
 
 -- one list stands at the front of another
 abbrev pub IsFront : {A : Type 0} → List A → List A → Type 0

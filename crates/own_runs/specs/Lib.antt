@@ -1,4 +1,3 @@
-pub mod Ways
 pub mod Values
 pub mod Events
 pub mod Store

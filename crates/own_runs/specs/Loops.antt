@@ -2,7 +2,7 @@
 use Rattle.std.specs.Prelude.{ℕ, zero, suc, ℤ, pos, ◌+ℤ◌, int_le, Bool}
 use Rattle.own_tree.specs.declared.span.Span.{Span}
 use Rattle.own_runs.specs.Store.{Act, take_turn}
-use Rattle.own_runs.specs.Ways.{◌>>=◌, ◌>>◌, pure, stop, pick}
+use Rattle.own_ways.specs.Ways.{◌>>=◌, ◌>>◌, pure, stop, pick}
 
 -- It goes on, or it leaves by a jump with its span. A result waits in the activation.
 pub data Flow : Type 0 where

@@ -3,11 +3,12 @@ use Rattle.std.specs.Prelude.{ℕ, zero, suc, Bool, true, false, ◌==◌, List,
 use Rattle.own_tree.specs.TypedSource.{TPat, any, bind, of_case, of_number, of_truth, TPats, no_pats, pat, TWhen, case_of, case_where, default, Program}
 use Rattle.own_shapes.specs.Types.{Shape, Shapes, Payloads, no_shapes, no_payloads, payloads}
 use Rattle.own_shapes.specs.Types as shape
-use Rattle.own_runs.specs.Arithmetic.{same, same_truth}
+use Rattle.own_runs.specs.Arithmetic.{same_truth}
 use Rattle.own_runs.specs.Destruction.{Call, end_value}
 use Rattle.own_runs.specs.Store.{Location, Act, below}
 use Rattle.own_runs.specs.Values.{Val, int, bool, unit, struct, variant, hole, Vals, no_vals, val, Part, payload, Found, found, hollow, nowhere, and_then}
-use Rattle.own_runs.specs.Ways.{◌>>◌, pure, stray}
+use Rattle.own_ways.specs.Arithmetic.{same}
+use Rattle.own_ways.specs.Ways.{◌>>◌, pure, stray}
 
 -- ---- matching
 

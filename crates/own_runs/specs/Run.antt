@@ -5,28 +5,29 @@ use Rattle.own_tree.specs.declared.place.Mode.{Mode}
 use Rattle.own_tree.specs.declared.place.Mode.TheVariants as mode
 use Rattle.own_tree.specs.declared.tree.RangeOperator.{RangeOperator}
 use Rattle.own_tree.specs.declared.tree.RangeOperator.TheVariants as range
+use Rattle.own_tree.specs.declared.typed.At.{At}
 use Rattle.own_tree.specs.declared.typed.BodyKind.{BodyKind}
 use Rattle.own_tree.specs.declared.typed.BodyKind.TheVariants as kind
 use Rattle.own_tree.specs.declared.typed.Logic.{Logic}
 use Rattle.own_tree.specs.declared.typed.Logic.TheVariants as connective
 use Rattle.own_tree.specs.declared.typed.Passing.{Passing}
+use Rattle.own_tree.specs.declared.typed.Target.TheVariants as target
 use Rattle.own_tree.specs.declared.typed.TypedPath.{TypedPath}
 use Rattle.own_tree.specs.TypedSource.{TPat, TExp, number, text, truth, path, parenthesized, consumed, negated, inverted, arithmetic, wrapping, compared, logic, choice, member, call, address, closure, function, TExps, no_exps, exp, TWhen, case_of, case_where, default, TStm, let_in, declare, ignore, assign, update, discard_self, if_then, if_else, else_if, loop_while, loop_repeat, loop_for, switch, leave, go_on, return_none, return_value, evaluate, TStms, no_stms, stm, TClauses, no_clauses, clause, TBlk, block, TBody, Program}
 use Rattle.own_paths.specs.Ops.{ended, has_result, binds_twice}
 use Rattle.own_shapes.specs.Types.{Types, is_copyable, tracked}
 use Rattle.own_paths.specs.Within.{node_of, path_of, pattern_bindings, patterns_bindings, locals}
-use Rattle.own_runs.specs.Arithmetic.{compute, wrapped, as_int, as_bool, compare_vals}
-use Rattle.own_runs.specs.Calls.{slots_of, lend_all, construct, binding_at, shape_of_binding, locate, take_value, pass, apply, end_lent}
+use Rattle.own_runs.specs.Arithmetic.{as_int, as_bool, as_val, compare_vals}
+use Rattle.own_runs.specs.Calls.{holder, item_bytes, text_of, spaced, slots_of, lend_all, construct, binding_at, shape_of_binding, locate, take_value, pass, apply, end_lent}
 use Rattle.own_runs.specs.Destruction.{Passed, Call, end_value}
-use Rattle.own_runs.specs.Events.{ended_by_discard, Item, output_of, traced_output_of, events_of, Event}
+use Rattle.own_runs.specs.Events.{printed, line, ended_by_discard, Item, output_of, traced_output_of, events_of, Event}
 use Rattle.own_runs.specs.Loops.{Flow, onward, broke, continued, returned, then_go, caught, while_turns, repeat_turns, for_turns}
 use Rattle.own_runs.specs.Patterns.{chosen, bound_parts, end_rest}
-use Rattle.own_runs.specs.Store.{binding, result, Location, Slot, absent, holds, refers, runs, State, Act, or_found, with_at, slot_at, set_slot, begin, finish, peek, put, read, vacate, move, root_at, below, hold, take_turn, take_level, note}
-use Rattle.own_runs.specs.Values.{Val, int, bool, unit, struct, variant, hole, is_whole, vacant, opened, Part, field}
-use Rattle.own_runs.specs.Ways.{Way, gives, traps, stops, errs, strays, ◌>>=◌, ◌>>◌, pure, trap, stop, stray, pick, or_stray}
-
-abbrev pub EMPTY_RANGE : ℕ
-EMPTY_RANGE = 4
+use Rattle.own_runs.specs.Store.{binding, result, Location, Slot, absent, holds, refers, runs, State, Act, or_found, with_at, slot_at, set_slot, begin, finish, peek, put, read, vacate, move, root_at, below, hold, take_turn, take_level, note, log_item}
+use Rattle.own_runs.specs.Values.{Val, int, bool, unit, struct, variant, hole, vacant, opened, Part, field, child}
+use Rattle.own_ways.specs.Arithmetic.{computed, wrapped}
+use Rattle.own_ways.specs.declared.traps.TheConstants.{EMPTY_RANGE}
+use Rattle.own_ways.specs.Ways.{Way, gives, traps, stops, errs, strays, ◌>>=◌, ◌>>◌, pure, trap, stop, err, stray, pick, or_stray}
 
 -- the last number of a range
 abbrev pub last_of : RangeOperator → ℤ → ℤ
@@ -71,6 +72,14 @@ clause_names twice default = []
 module _ (types : Types) (program : Program) (run : Call) (me level : ℕ) where
   -- ---- expressions
 
+  -- A stored property of a value. Of a copyable one it is taken as that comes. Any other is a temporary, which waits
+  -- at its node, and is destroyed right after the read.
+  abbrev pub part_of : Bool → At → TExp → ℕ → Act Val → Act Val
+  part_of true at e k value = value >>= λ v. or_found (child v (field k))
+  part_of false at e k value =
+      value >>= hold me (holder e) >>= λ l. read (below l (field k ∷ [])) >>= hold me at >>= λ to.
+      end_value program run (types.shape (node_of e).ty) l level >> move to
+
   -- An operand waits as a number or a truth, and any other value at the node of its expression.
   abbrev mutual
     pub eval : TExp → Act Val
@@ -80,16 +89,15 @@ module _ (types : Types) (program : Program) (run : Call) (me level : ℕ) where
     eval (path p) = take_value types program run me level p
     eval (parenthesized at e) = eval e
     eval (consumed at p) = locate types program run me level p.place >>= move
-    eval (negated at mark e) = eval e >>= as_int >>= λ n. compute arith.Neg mark.start n (pos 0)
+    eval (negated at mark e) = eval e >>= as_int >>= λ n. as_val (computed arith.Neg mark.start (pos 0) n)
     eval (inverted at e) = eval e >>= as_bool >>= λ b. pure (bool (not b))
-    eval (arithmetic at o mark a b) = eval a >>= as_int >>= λ x. eval b >>= as_int >>= λ y. compute o mark.start x y
-    eval (wrapping at o a b) = eval a >>= as_int >>= λ x. eval b >>= as_int >>= λ y. wrapped o x y
+    eval (arithmetic at o mark a b) = eval a >>= as_int >>= λ x. eval b >>= as_int >>= λ y. as_val (computed o mark.start x y)
+    eval (wrapping at o a b) = eval a >>= as_int >>= λ x. eval b >>= as_int >>= λ y. as_val (wrapped o x y)
     eval (compared at o a b) = eval a >>= λ x. eval b >>= λ y. compare_vals o x y
     eval (logic at o a b) = eval a >>= as_bool >>= λ x. connected o x (eval b >>= as_bool >>= λ y. pure (bool y))
     eval (choice at c a b) = eval c >>= as_bool >>= λ x. pick x (eval a) (eval b)
-    eval (member at e k) =
-        eval e >>= hold me (node_of e) >>= λ l. read (below l (field k ∷ [])) >>= λ v.
-        end_value program run (types.shape (node_of e).ty) l level >> pure v
+    eval (member at e k) = part_of (is_copyable types (node_of e).ty) at e k (eval e)
+    eval (call at target.Print es passings) = items es >>= λ bytes. log_item (printed (line (spaced bytes))) >> pure unit
     eval (call at to es passings) =
         eval_all es passings >>= λ ps.
         lend_all ps >> apply types program run me level to ps >>= hold me at >>= λ l.
@@ -105,17 +113,22 @@ module _ (types : Types) (program : Program) (run : Call) (me level : ℕ) where
     eval_all no_exps (p ∷ ps) = stray
     eval_all (exp e es) [] = stray
 
+    -- the items of a `print`
+    pub items : TExps → Act (List (List ℕ))
+    items no_exps = pure []
+    items (exp e es) = item_bytes (text_of e) (eval e) >>= λ first. items es >>= λ rest. pure (first ∷ rest)
+
   abbrev pub test : TExp → Act Bool
   test e = eval e >>= as_bool
 
   -- the value of an expression that nothing takes is destroyed at once
   abbrev pub drop_value : TExp → Act (Unit {0})
-  drop_value e = eval e >>= hold me (node_of e) >>= λ l. end_value program run (types.shape (node_of e).ty) l level
+  drop_value e = eval e >>= hold me (holder e) >>= λ l. end_value program run (types.shape (node_of e).ty) l level
 
   -- The old value of an assigned place is destroyed after the new one was evaluated.
   abbrev pub assign_value : TypedPath → TExp → Act (Unit {0})
   assign_value p e =
-      eval e >>= hold me (node_of e) >>= λ from. locate types program run me level p.place >>= λ l.
+      eval e >>= hold me (holder e) >>= λ from. locate types program run me level p.place >>= λ l.
       end_value program run (types.shape p.at.ty) l level >> move from >>= put l
 
   -- ---- scopes
@@ -141,8 +154,8 @@ module _ (types : Types) (program : Program) (run : Call) (me level : ℕ) where
   -- A noncopyable place is borrowed. Any other subject is evaluated and waits at its node (SE-0432).
   abbrev pub subject_at : Bool → Option TypedPath → TExp → Act Location
   subject_at false (Some p) e = locate types program run me level p.place >>= λ l. read l >> pure l
-  subject_at false None e = eval e >>= hold me (node_of e)
-  subject_at true p e = eval e >>= hold me (node_of e)
+  subject_at false None e = eval e >>= hold me (holder e)
+  subject_at true p e = eval e >>= hold me (holder e)
 
   abbrev pub subject : TExp → Act Location
   subject e = subject_at (is_copyable types (node_of e).ty) (path_of e) e
@@ -201,7 +214,7 @@ module _ (types : Types) (program : Program) (run : Call) (me level : ℕ) where
       exec (assign at p e) = assign_value p e >> pure onward
       exec (update at p o mark e) =
           eval e >>= as_int >>= λ y. locate types program run me level p.place >>= λ l.
-          read l >>= as_int >>= λ x. compute o mark.start x y >>= put l >> pure onward
+          read l >>= as_int >>= λ x. as_val (computed o mark.start x y) >>= put l >> pure onward
       exec (discard_self at p) = locate types program run me level p >>= move >>= forget >> pure onward
       exec (if_then at c a) = test c >>= λ b. pick b (exec_block a) (pure onward)
       exec (if_else at c a b) = test c >>= λ x. pick x (exec_block a) (exec_block b)
@@ -230,9 +243,9 @@ module _ (types : Types) (program : Program) (run : Call) (me level : ℕ) where
       exec_turn None n (block at ss) = exec_all ss >>= leave_scope (locals ss)
       exec_turn (Some x) n (block at ss) = set_slot me x (holds (int n)) >> exec_all ss >>= leave_scope (x ∷ locals ss)
 
-      -- the first clause that matches and whose guard holds
+      -- The first clause that matches and whose guard holds. There is one, unless a guard has changed the subject.
       pub exec_clauses : TClauses → TExp → Location → Act Flow
-      exec_clauses no_clauses e l = stray
+      exec_clauses no_clauses e l = err
       exec_clauses (clause span head ss cs) e l =
           peek l >>= λ v. or_found (chosen head v) >>= λ p.
           clause_or e head p l (clause_names (binds_twice types program e) head ++ locals ss) (exec_all ss) (exec_clauses cs e l)
@@ -270,10 +283,10 @@ module _ (types : Types) (program : Program) where
     v ← move (root_at me (binding x))
     completed (tracked (types.shape b.ty)) v
 
-  -- A body with a result does not fall off its end, where no result waits.
+  -- Where a body with a result falls off its end, no result waits, and a hole is read.
   abbrev pub result_value : ℕ → Bool → Act Val
   result_value me false = pure unit
-  result_value me true = peek (root_at me result) >>= λ v. pick (is_whole v) (pure v) stray
+  result_value me true = read (root_at me result)
 
   abbrev pub body_value : ℕ → TBody → BodyKind → Act Val
   body_value me body kind.Initializer = made_self me body.params

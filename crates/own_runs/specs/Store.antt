@@ -4,7 +4,8 @@ use Rattle.own_tree.specs.declared.limits.TheConstants.{MOST_LEVELS}
 use Rattle.own_tree.specs.declared.typed.At.{At}
 use Rattle.own_runs.specs.Events.{Event, made, Item, happened}
 use Rattle.own_runs.specs.Values.{Val, int, struct, Vals, is_whole, emptied, Part, Found, found, hollow, nowhere, value_at, with_value_at}
-use Rattle.own_runs.specs.Ways.{Step, ◌>>=◌, ◌>>◌, pure, trap, stop, err, stray, look, change, pick, or_stray}
+use Rattle.own_ways.specs.declared.traps.TheConstants.{TOO_MANY_LEVELS}
+use Rattle.own_ways.specs.Ways.{Step, ◌>>=◌, ◌>>◌, pure, trap, stop, err, stray, look, change, pick, or_stray}
 
 -- ---- the store
 
@@ -139,9 +140,6 @@ turn_of (suc left) = change (λ s. record s { turns = left })
 
 abbrev pub take_turn : Act (Unit {0})
 take_turn = λ s. turn_of s.turns s
-
-abbrev pub TOO_MANY_LEVELS : ℕ
-TOO_MANY_LEVELS = 3
 
 abbrev pub take_level : ℕ → Act (Unit {0})
 take_level level = pick (nat_le level MOST_LEVELS) (pure tt) (trap TOO_MANY_LEVELS 0)

@@ -86,7 +86,8 @@ pub data Part : Type 0 where
   field : ℕ → Part
   payload : (present : ℕ) → ℕ → Part
 
--- What is looked for in a value: it is there, or it lies below a hole, or the value has no such part.
+-- What is looked for in a value: it is there; it lies below a hole, or in a case that is not present, which is where
+-- no value is; or no value of this type has such a part.
 pub data Found (A : Type 0) : Type 0 where
   found : A → Found A
   hollow : Found A
@@ -111,7 +112,7 @@ abbrev pub child : Val → Part → Found Val
 child (struct type number vs) (field k) = nth vs k
 child (struct type number vs) (payload c k) = nowhere
 child (variant present vs) (field k) = nowhere
-child (variant present vs) (payload c k) = if present == c then nth vs k else nowhere
+child (variant present vs) (payload c k) = if present == c then nth vs k else hollow
 child hole part = hollow
 child (int n) part = nowhere
 child (bool b) part = nowhere
@@ -122,7 +123,7 @@ with_child (struct type number vs) (field k) new = and_then (with_nth vs k new) 
 with_child (struct type number vs) (payload c k) new = nowhere
 with_child (variant present vs) (field k) new = nowhere
 with_child (variant present vs) (payload c k) new =
-    if present == c then and_then (with_nth vs k new) (λ all. found (variant present all)) else nowhere
+    if present == c then and_then (with_nth vs k new) (λ all. found (variant present all)) else hollow
 with_child hole part new = hollow
 with_child (int n) part new = nowhere
 with_child (bool b) part new = nowhere

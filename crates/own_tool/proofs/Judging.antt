@@ -20,20 +20,20 @@ use Rattle.own_meaning.specs.Run.{Outcome, Ended, Trapped, Cut, Wrong, run}
 use Rattle.own_meaning.specs.Laws.{IsAcceptedTree, RunsWell, IsWhole}
 use Rattle.own_meaning.proofs.Laws.{accepted_run_well}
 use Rattle.own_meaning.proofs.MoreTurns.{more_output, same_with_more_turns}
-use Rattle.own_tool.specs.SecondForm.{IsSecondForm}
-use Rattle.own_tool.proofs.SecondSpread.{spelled_spread}
+use Rattle.own_second.specs.SecondForm.{IsSecondForm}
+use Rattle.own_second.proofs.SecondSpread.{spelled_spread}
 use Rattle.own_meaning.specs.Marks.{findings_of}
 use Rattle.own_meaning.proofs.Checked.{findings_are, sound_where_none}
-use Rattle.own_tool.specs.Texts.{finding_lines}
+use Rattle.own_second.specs.Texts.{finding_lines}
 use Rattle.std.specs.Prelude.{Bool, true, false, nat_lt}
 use Rattle.std.proofs.lemmas.Bool.{ltb-true, ltb-false}
-use Rattle.own_tool.specs.Lower.{lowered}
+use Rattle.own_second.specs.Lower.{lowered}
 use Rattle.own_tool.specs.Words.{file_to_run}
 use Rattle.own_tool.specs.Texts.{usage_line, memory_line, read_line, too_long_line, not_built_line, trap_line}
 use Rattle.own_tool.specs.Headline.{DEFAULT_STEPS, MOST_BYTES, IsPrefix, IsProperPrefix, Follows, Told, IsContent, AreItsFindings, Accepts, FileAnswers, Answers}
 use Rattle.own_tool.specs.Saying.{Said, IsConcluded}
 use Rattle.own_tool.specs.Judged.{answer_of, line_of, EndsAs, IsJudged, ending_of}
-use Rattle.own_tool.proofs.Whole.{Agrees, file_agrees}
+use Rattle.own_second.proofs.Whole.{Agrees, file_agrees}
 use Rattle.std.specs.Prelude.{◌⊎◌}
 use Rattle.own_meaning.specs.Run.{Behaviour}
 

@@ -7,9 +7,10 @@ use Rattle.own_tree.specs.declared.finding.Finding.{Finding}
 use Rattle.own_meaning.specs.Findings.{AreFindings, uses_of, IsSound}
 use Rattle.own_meaning.specs.Once.{IsUntouched, EndsOnce}
 use Rattle.own_meaning.specs.Run.{Outcome, Ended, Trapped, Cut, run}
-use Rattle.own_tool.specs.SecondForm.{IsSecondForm}
+use Rattle.own_second.specs.SecondForm.{IsSecondForm}
 use Rattle.own_tool.specs.Words.{file_to_run}
-use Rattle.own_tool.specs.Texts.{usage_line, memory_line, steps_line, read_line, too_long_line, not_built_line, trap_line, finding_lines}
+use Rattle.own_tool.specs.Texts.{usage_line, memory_line, steps_line, read_line, too_long_line, not_built_line, trap_line}
+use Rattle.own_second.specs.Texts.{finding_lines}
 
 -- ---- runs
 

@@ -14,7 +14,7 @@ use Rattle.own_tool.specs.declared.judged.Judged.{Judged}
 use Rattle.own_tool.specs.declared.judged.Judged.TheVariants as judged
 use Rattle.own_meaning.specs.Findings.{IsSound}
 use Rattle.own_meaning.specs.Run.{Ended, Trapped, run}
-use Rattle.own_tool.specs.SecondForm.{IsSecondForm}
+use Rattle.own_second.specs.SecondForm.{IsSecondForm}
 use Rattle.own_tool.specs.Texts.{read_line, too_long_line, not_built_line, trap_line, steps_line}
 use Rattle.own_tool.specs.Headline.{DEFAULT_STEPS, MOST_BYTES, IsProperPrefix, Told, IsContent, AreItsFindings}
 

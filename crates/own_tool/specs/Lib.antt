@@ -1,11 +1,5 @@
-pub mod Form
-pub mod FormReading
-pub mod SecondForm
-pub mod SecondFormReading
-pub mod Lower
 pub mod Words
 pub mod Texts
 pub mod Headline
 pub mod Saying
 pub mod Judged
-pub mod MainSize

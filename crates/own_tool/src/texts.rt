@@ -3,9 +3,10 @@
 ghost use Rattle.std.specs.Prelude.{◌≡◌, ◌≤◌, ◌++◌, length, IfOk, OnOk, string_bytes};
 ghost use Rattle.std.specs.Fmt.{decimal};
 ghost use Rattle.own_report.specs.Place.{place_at};
-ghost use Rattle.own_tool.specs.Texts.{read_line, too_long_line, not_built_line, place_after, trap_after, trap_line, trap_text, steps_line};
+ghost use Rattle.own_report.specs.Lines.{place_after};
+ghost use Rattle.own_tool.specs.Texts.{read_line, too_long_line, not_built_line, trap_after, trap_line, trap_text, steps_line};
 
-use own_report::{LineColumn, place_of};
+use own_report::{LineColumn, place_in};
 use std::alloc::{AllocError, Global};
 
 pub(crate) fn read_line(alloc: Global, file: &str) -> Result<String, AllocError>
@@ -45,18 +46,6 @@ fn trap_text(code: u32) -> &'static str
         3 => "too many levels",
         _ => "range ends before it begins",
     }
-}
-
-/// The place of an offset, which may lie past the end of the text.
-pub(crate) fn place_in(text: &[u8], at: u32) -> LineColumn
-    requires { length text.now ≤ 1048576 }
-    ensures { result ≡ place_at text.now at }
-{
-    let end = text.len() as u32;
-    if at <= end {
-        return place_of(text, at);
-    }
-    place_of(text, end)
 }
 
 /// Adds a number in decimal.

@@ -6,20 +6,20 @@ ghost use Rattle.own_tool.specs.Judged.{answer_of, answer_of_ending, line_of, li
 ghost use Rattle.own_tool.specs.Words.{file_to_run};
 ghost use Rattle.own_tool.specs.Headline.{Answers};
 ghost use Rattle.own_tool.specs.Saying.{Said, IsConcluded};
-ghost use Rattle.own_tool.specs.SecondForm.{IsSecondForm};
+ghost use Rattle.own_second.specs.SecondForm.{IsSecondForm};
 ghost use Rattle.own_tree.specs.View.{tree_view};
 ghost use Rattle.own_meaning.specs.Findings.{IsSound};
 ghost use Rattle.wasm_form.specs.Within.{IsWithin};
 ghost use Rattle.wasm_form.specs.Steps.{machine_run};
 ghost use Rattle.wasm_run.specs.Runs.{RanAs};
 
-use crate::findings::{finding_lines, findings};
 use crate::judged::{Ending, Judged};
-use crate::lower::lower;
-use crate::second_form::read_form;
 use crate::texts::{not_built_line, read_line, steps_line, too_long_line, trap_line};
 use crate::words::file_to_run;
 use own_io::{Folder, LoadError, Sink, send};
+use own_second::findings::{finding_lines, findings};
+use own_second::lower::lower;
+use own_second::second_form::read_form;
 use own_tree::limits::MOST_TEXT_BYTES;
 use own_tree::tree::Tree;
 use own_tree::{Bytes, Row, Status};

@@ -70,7 +70,7 @@ pub branches :
     (machine_run (program (F.I64Const 1 ∷ F.Return ∷ [])) [] 9 ≡ ([], Ended 2)) ×
     (machine_run (program (F.I64Const 1 ∷ [])) [] 9 ≡ ([], Trapped 18 0)) ×
     (machine_run (program (F.I64Const 1 ∷ F.Block None (spell (F.Drop ∷ [])) ∷ [])) [] 9 ≡ ([], Trapped 18 0))
-unfolding machine_run started step act leave branch pop pop32 pop64 two32 two64 pushed given local_get local_set local_tee global_get global_set call call_defined called call_indirect type_of_function host address stored memory_size memory_grow select idiv_s idiv_u irem_s irem_u digits roll-Instr out-Instr denote.Hole.Carrier.roll denote.Hole.Carrier.out denote.Hole.Carrier.shown denote.Hole.Carrier.hidden Rattle.wasm_form.specs.declared.instr.Instr.TheBlock.shown-the_row-Instr-0
+unfolding machine_run started step act leave branch pop pop32 pop64 two32 two64 pushed given local_get local_set local_tee global_get global_set call call_defined called call_indirect type_of_function host address stored memory_size memory_grow select idiv_s idiv_u irem_s irem_u digits roll-Instr out-Instr denote.Hole.Carrier.roll denote.Hole.Carrier.out denote.Hole.Carrier.shown denote.Hole.Carrier.hidden Rattle.wasm_form.specs.declared.instr.Instr.TheBlock.shown-the_row-Instr-0 Rattle.wasm_form.specs.declared.instr.Instr.TheBlock.shown-the_row-Instr-If-1-1-1
 branches = (refl, refl, refl, refl, refl, refl, refl, refl, refl, refl, refl, refl, refl)
 
 -- a br to an if, to an outer block, to the function, and past it; a value handed on by an if; what a br_table chooses
@@ -83,7 +83,7 @@ pub labels :
     (machine_run (program (F.I32Const 0 ∷ F.If (Some type.I64) (spell (F.I64Const 1 ∷ [])) (spell (F.I64Const 2 ∷ F.I64Const 3 ∷ F.Br 0 ∷ [])) ∷ F.Call 0 ∷ [])) [] 9 ≡ (codes "3", Ended 7)) ×
     (machine_run (program (F.Block None (spell (F.Block None (spell (F.I32Const 1 ∷ F.BrTable (0 ∷ 1 ∷ []) 0 ∷ [])) ∷ F.Unreachable ∷ [])) ∷ [])) [] 9 ≡ ([], Ended 5)) ×
     (machine_run (program (F.Block None (spell (F.Block None (spell (F.I32Const 0 ∷ F.BrTable (0 ∷ 1 ∷ []) 1 ∷ [])) ∷ F.Unreachable ∷ [])) ∷ [])) [] 9 ≡ ([], Trapped 10 0))
-unfolding machine_run started step act leave branch pop pop32 pop64 two32 two64 pushed given local_get local_set local_tee global_get global_set call call_defined called call_indirect type_of_function host address stored memory_size memory_grow select idiv_s idiv_u irem_s irem_u digits roll-Instr out-Instr denote.Hole.Carrier.roll denote.Hole.Carrier.out denote.Hole.Carrier.shown denote.Hole.Carrier.hidden Rattle.wasm_form.specs.declared.instr.Instr.TheBlock.shown-the_row-Instr-0
+unfolding machine_run started step act leave branch pop pop32 pop64 two32 two64 pushed given local_get local_set local_tee global_get global_set call call_defined called call_indirect type_of_function host address stored memory_size memory_grow select idiv_s idiv_u irem_s irem_u digits roll-Instr out-Instr denote.Hole.Carrier.roll denote.Hole.Carrier.out denote.Hole.Carrier.shown denote.Hole.Carrier.hidden Rattle.wasm_form.specs.declared.instr.Instr.TheBlock.shown-the_row-Instr-0 Rattle.wasm_form.specs.declared.instr.Instr.TheBlock.shown-the_row-Instr-If-1-1-1
 labels = (refl, refl, refl, refl, refl, refl, refl, refl)
 
 -- an empty main with no step, with its one, and with more

@@ -1,6 +1,5 @@
 pub mod LebLaws
 pub mod Outs
-pub mod Laws
 mod Examples
 mod Tables
 pub mod Nests

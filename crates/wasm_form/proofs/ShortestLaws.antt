@@ -16,6 +16,7 @@ use Rattle.wasm_form.specs.declared.types.Value.{Value}
 use Rattle.wasm_form.specs.declared.types.Value.TheVariants as value
 use Rattle.wasm_form.specs.declared.types.Limits.{Limits}
 use Rattle.wasm_form.specs.declared.types.FunctionType.{FunctionType}
+use Rattle.wasm_form.specs.declared.limits.TheConstants.{MOST_LABELS}
 use Rattle.wasm_form.specs.declared.module.Import.{Import}
 use Rattle.wasm_form.specs.declared.module.GlobalEntry.{GlobalEntry}
 use Rattle.wasm_form.specs.declared.module.Export.{Export}
@@ -241,7 +242,7 @@ by_spelling : (labels : ℕ) (i : Instr) (bytes short : List ℕ) → instr_shor
 by_spelling labels i bytes short e is le = subst (Shorter (IsInstr labels i) bytes) (sym e) (is, le)
 
 -- an if, whose second side may be empty
-sides_shorter : (labels : ℕ) (i : Instr) (bytes : List ℕ) (t : Option ValueType) (one other : List Instr) (code more : List ℕ) → labels < 1024 → i ≡ If t one other → bytes ≡ both t code more
+sides_shorter : (labels : ℕ) (i : Instr) (bytes : List ℕ) (t : Option ValueType) (one other : List Instr) (code more : List ℕ) → labels < MOST_LABELS → i ≡ If t one other → bytes ≡ both t code more
     → Shorter (IsCode (labels + 1) one) code (code_shortest_of one) → Shorter (IsCode (labels + 1) other) more (code_shortest_of other) → Shorter (IsInstr labels i) bytes (instr_shortest i)
 sides_shorter labels i bytes t one [] code more few is spelled first second =
     let short = wrapped 0x04 t (code_shortest_of one) in

@@ -1,56 +1,36 @@
 -- A module that some bytes spell is within the limits.
 use Rattle.std.proofs.Common.{◌≡◌, ℕ, zero, suc, ◌+◌, ◌<◌, ◌≤◌, max, List, [], ◌∷◌, ◌++◌, length, get_or, Option, Some, refl, ap, subst, ◌∙◌, length-append, arith, ◌⊎◌, inl, inr}
 use Rattle.std.specs.Prelude.{slice_get}
-use Rattle.wasm_form.specs.declared.instr.Instr.{Instr, out-Instr, fold-Instr, fold_out-Instr}
-use Rattle.wasm_form.specs.declared.instr.Instr.TheFolds.{map-Instr}
+use Rattle.wasm_form.specs.declared.instr.Instr.{Instr, out-Instr}
 use Rattle.wasm_form.specs.declared.instr.Instr.TheOpen.{Instr-F}
 use Rattle.wasm_form.specs.declared.instr.Instr.TheOpen as F
 use Rattle.wasm_form.specs.declared.instr.Instr.TheVariants.{Block, Loop, If}
 use Rattle.wasm_form.specs.declared.types.ValueType.{ValueType}
 use Rattle.wasm_form.specs.declared.types.FunctionType.{FunctionType}
 use Rattle.wasm_form.specs.declared.types.Limits.{Limits}
+use Rattle.wasm_form.specs.declared.limits.TheConstants.{MOST_LOCALS, MOST_LABELS, MOST_TABLE, MOST_PAGES}
 use Rattle.wasm_form.specs.declared.module.CodeEntry.{CodeEntry}
 use Rattle.wasm_form.specs.declared.module.Module.{Module}
 use Rattle.wasm_form.specs.Steps.{defined_type, least}
-use Rattle.wasm_form.specs.Within.{IsWithin, FunctionIsWithin, ElementIsWithin, SegmentIsWithin, nest, nest_one, nest_layer, count_locals}
+use Rattle.wasm_form.specs.Within.{IsWithin, FunctionIsWithin, ElementIsWithin, SegmentIsWithin, nest, nest_one, count_locals}
 use Rattle.std.proofs.lemmas.Option.{get_or_from_slice_get, slice_get_within}
 use Rattle.wasm_form.specs.Bytes.{plain, block, loop, one_side, two_sides, no_more, one_more, Byte, Sized, IsList, parameters_in, AreItems, IsPlain, AreImmediates, IsInstr, IsCode, IsCodeEntry, IsElement, IsSegment, IsTable, IsMemory, IsSection, ModuleBytes}
+use Rattle.wasm_form.proofs.Nests.{nest_of, nest_is}
 use Rattle.wasm_form.proofs.Outs.{out_block, out_loop, out_if}
 
 -- ---- labels
 
-layer_nest : Instr-F Instr → ℕ
-layer_nest (F.Block r body) = nest body + 1
-layer_nest (F.Loop r body) = nest body + 1
-layer_nest (F.If r first second) = max (nest first) (nest second) + 1
-layer_nest _ = 0
-
-layer_is : (l : Instr-F Instr) → nest_layer (map-Instr Instr ℕ (fold-Instr ℕ nest_layer) l) ≡ layer_nest l
-unfolding nest_one layer_nest
-layer_is (F.Block r body) = refl
-layer_is (F.Loop r body) = refl
-layer_is (F.If r first second) = refl
-layer_is _ = refl
-
-nest_is : (i : Instr) → nest_one i ≡ layer_nest (out-Instr i)
-unfolding nest_one
-nest_is i = fold_out-Instr ℕ nest_layer i ∙ layer_is (out-Instr i)
-
 block_nest : (t : Option ValueType) (body : List Instr) → nest_one (Block t body) ≡ nest body + 1
-unfolding layer_nest
-block_nest t body = nest_is (Block t body) ∙ ap layer_nest (out_block t body)
+block_nest t body = nest_is (Block t body) ∙ ap nest_of (out_block t body)
 
 loop_nest : (t : Option ValueType) (body : List Instr) → nest_one (Loop t body) ≡ nest body + 1
-unfolding layer_nest
-loop_nest t body = nest_is (Loop t body) ∙ ap layer_nest (out_loop t body)
+loop_nest t body = nest_is (Loop t body) ∙ ap nest_of (out_loop t body)
 
 if_nest : (t : Option ValueType) (one other : List Instr) → nest_one (If t one other) ≡ max (nest one) (nest other) + 1
-unfolding layer_nest
-if_nest t one other = nest_is (If t one other) ∙ ap layer_nest (out_if t one other)
+if_nest t one other = nest_is (If t one other) ∙ ap nest_of (out_if t one other)
 
 -- an instruction that holds no others has no labels
-plain_layer : (l : Instr-F Instr) (bytes : List ℕ) → AreImmediates l bytes → layer_nest l ≡ 0
-unfolding layer_nest
+plain_layer : (l : Instr-F Instr) (bytes : List ℕ) → AreImmediates l bytes → nest_of l ≡ 0
 plain_layer (F.Block t body) bytes h = absurd h
 plain_layer (F.Loop t body) bytes h = absurd h
 plain_layer (F.If t first second) bytes h = absurd h
@@ -61,7 +41,7 @@ plain_nest i [] h = absurd h
 plain_nest i (b ∷ rest) h = nest_is i ∙ plain_layer (out-Instr i) rest h.1
 
 mutual
-  instr_nest : (labels : ℕ) (i : Instr) (bytes : List ℕ) → IsInstr labels i bytes → labels ≤ 1024 → nest_one i + labels ≤ 1024
+  instr_nest : (labels : ℕ) (i : Instr) (bytes : List ℕ) → IsInstr labels i bytes → labels ≤ MOST_LABELS → nest_one i + labels ≤ MOST_LABELS
   instr_nest labels i bytes (plain k j bs h) le = let e = plain_nest i bytes h in omega (arith, e, le)
   instr_nest labels i bytes (block k j bs t body code lt is spelled inner) le =
       let n = code_nest (labels + 1) body code inner (omega arith) in
@@ -81,7 +61,7 @@ mutual
       let e : nest_one i ≡ max (nest one) (nest other) + 1 = ap nest_one is ∙ if_nest t one other in
       omega (arith, e, n, m)
 
-  code_nest : (labels : ℕ) (is : List Instr) (bytes : List ℕ) → IsCode labels is bytes → labels ≤ 1024 → nest is + labels ≤ 1024
+  code_nest : (labels : ℕ) (is : List Instr) (bytes : List ℕ) → IsCode labels is bytes → labels ≤ MOST_LABELS → nest is + labels ≤ MOST_LABELS
   code_nest labels is bytes (no_more k) le = omega (arith, le)
   code_nest labels is bytes (one_more k i more front back whole parts head tail) le =
       let n = instr_nest labels i front head le in
@@ -122,7 +102,7 @@ least_most most (l ∷ ls) h = h 0 l (omega arith)
 module _ (bytes : List ℕ) (m : Module) (h : ModuleBytes bytes m) where
   functions_within : (k : ℕ) (t : FunctionType) (f : CodeEntry) → defined_type m k ≡ Some t → slice_get m.codes k ≡ Some f → FunctionIsWithin t f
   functions_within k t f is_type is_code =
-      let P : ℕ → CodeEntry → Type 0 = λ n c. (parameters_in (defined_type m n) + count_locals c.locals ≤ 4400) × (nest c.body ≤ 1024) in
+      let P : ℕ → CodeEntry → Type 0 = λ n c. (parameters_in (defined_type m n) + count_locals c.locals ≤ MOST_LOCALS) × (nest c.body ≤ MOST_LABELS) in
       let each = all_in 10 (λ before. IsCodeEntry m (length before)) P (λ before c bs e.
       (e.0, let n = code_nest 0 c.body e.1.is.second.front e.1.is.second.first (omega arith) in omega (arith, n)))
       m.codes _ h.sections.second.second.second.second.second.second.second.second.first in
@@ -137,8 +117,8 @@ module _ (bytes : List ℕ) (m : Module) (h : ModuleBytes bytes m) where
   module_within = record {
     main = h.main;
     functions = functions_within;
-    table = least_most 16384 m.tables (all_in 4 (λ _. IsTable) (λ _ l. l.min ≤ 16384) (λ before l bs e. e.0) m.tables _ h.sections.second.second.second.first);
-    pages = least_most 272 m.memories (all_in 5 (λ _. IsMemory) (λ _ l. l.min ≤ 272) (λ before l bs e. e.0) m.memories _ h.sections.second.second.second.second.first);
+    table = least_most MOST_TABLE m.tables (all_in 4 (λ _. IsTable) (λ _ l. l.min ≤ MOST_TABLE) (λ before l bs e. e.0) m.tables _ h.sections.second.second.second.first);
+    pages = least_most MOST_PAGES m.memories (all_in 5 (λ _. IsMemory) (λ _ l. l.min ≤ MOST_PAGES) (λ before l bs e. e.0) m.memories _ h.sections.second.second.second.second.first);
     elements = all_in 9 (λ _. IsElement m) (λ _. ElementIsWithin m) (λ before s bs e. e.0) m.elements _ h.sections.second.second.second.second.second.second.second.first;
     segments = all_in 11 (λ _. IsSegment m) (λ _. SegmentIsWithin m) (λ before s bs e. e.0) m.segments _ h.sections.second.second.second.second.second.second.second.second.second.first;
   }

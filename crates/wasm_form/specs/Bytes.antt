@@ -13,6 +13,7 @@ use Rattle.wasm_form.specs.declared.types.Value.{Value}
 use Rattle.wasm_form.specs.declared.types.Value.TheVariants as value
 use Rattle.wasm_form.specs.declared.types.Limits.{Limits}
 use Rattle.wasm_form.specs.declared.types.FunctionType.{FunctionType}
+use Rattle.wasm_form.specs.declared.limits.TheConstants.{MOST_TYPES, MOST_FUNCTIONS, MOST_GLOBALS, MOST_EXPORTS, MOST_PARAMETERS, MOST_LOCALS, MOST_LABELS, MOST_TARGETS, MOST_TABLE, MOST_PAGES, PAGE}
 use Rattle.wasm_form.specs.declared.module.HostCall.{HostCall}
 use Rattle.wasm_form.specs.declared.module.HostCall.TheVariants as host
 use Rattle.wasm_form.specs.declared.module.Import.{Import}
@@ -90,7 +91,7 @@ abbrev pub IsValueType : ValueType → List ℕ → Type 0
 IsValueType t bytes = Byte (value_type_byte t) Nothing bytes
 
 abbrev pub IsType : FunctionType → List ℕ → Type 0
-IsType t bytes = (length t.parameters ≤ 64)
+IsType t bytes = (length t.parameters ≤ MOST_PARAMETERS)
     × Byte 0x60 (Then (IsList (λ _. IsValueType) t.parameters) (IsList (λ _. IsValueType) (result_list t.result))) bytes
 
 abbrev pub AreBounds : ℕ → Option ℕ → List ℕ → Type 0
@@ -98,10 +99,10 @@ AreBounds min None bytes = Byte 0x00 (IsU32 min) bytes
 AreBounds min (Some max) bytes = (min ≤ max) × Byte 0x01 (Then (IsU32 min) (IsU32 max)) bytes
 
 abbrev pub IsTable : Limits → List ℕ → Type 0
-IsTable l bytes = (l.min ≤ 16384) × Byte 0x70 (AreBounds l.min l.max) bytes
+IsTable l bytes = (l.min ≤ MOST_TABLE) × Byte 0x70 (AreBounds l.min l.max) bytes
 
 abbrev pub IsMemory : Limits → List ℕ → Type 0
-IsMemory l bytes = (l.min ≤ 272) × AreBounds l.min l.max bytes
+IsMemory l bytes = (l.min ≤ MOST_PAGES) × AreBounds l.min l.max bytes
 
 -- ---- instructions (5.4)
 
@@ -118,7 +119,7 @@ AreImmediates (F.Loop t body) bytes = ⊥
 AreImmediates (F.If t first second) bytes = ⊥
 AreImmediates (F.Br l) bytes = IsU32 l bytes
 AreImmediates (F.BrIf l) bytes = IsU32 l bytes
-AreImmediates (F.BrTable ls l) bytes = (length ls ≤ 4096) × Then (IsList (λ _. IsU32) ls) (IsU32 l) bytes
+AreImmediates (F.BrTable ls l) bytes = (length ls ≤ MOST_TARGETS) × Then (IsList (λ _. IsU32) ls) (IsU32 l) bytes
 AreImmediates (F.Call f) bytes = IsU32 f bytes
 AreImmediates (F.CallIndirect t) bytes = Then (IsU32 t) (Byte 0x00 Nothing) bytes
 AreImmediates (F.LocalGet x) bytes = IsU32 x bytes
@@ -154,17 +155,17 @@ AreImmediates _ bytes = Nothing bytes
 abbrev pub IsPlain : Instr → List ℕ → Type 0
 IsPlain i bytes = Byte (layer_opcode (out-Instr i)) (AreImmediates (out-Instr i)) bytes
 
--- An instruction, and a list of them, within so many labels, of which there are at most 1,024.
+-- An instruction, and a list of them, within so many labels, of which there are at most `MOST_LABELS`.
 mutual
   pub data IsInstr : ℕ → Instr → List ℕ → Type 0 where
     plain : (labels : ℕ) (i : Instr) (bytes : List ℕ) → IsPlain i bytes → IsInstr labels i bytes
-    block : (labels : ℕ) (i : Instr) (bytes : List ℕ) (t : Option ValueType) (body : List Instr) (code : List ℕ) → labels < 1024 → i ≡ Block t body
+    block : (labels : ℕ) (i : Instr) (bytes : List ℕ) (t : Option ValueType) (body : List Instr) (code : List ℕ) → labels < MOST_LABELS → i ≡ Block t body
         → bytes ≡ 0x02 ∷ block_type_byte t ∷ (code ++ 0x0b ∷ []) → IsCode (labels + 1) body code → IsInstr labels i bytes
-    loop : (labels : ℕ) (i : Instr) (bytes : List ℕ) (t : Option ValueType) (body : List Instr) (code : List ℕ) → labels < 1024 → i ≡ Loop t body
+    loop : (labels : ℕ) (i : Instr) (bytes : List ℕ) (t : Option ValueType) (body : List Instr) (code : List ℕ) → labels < MOST_LABELS → i ≡ Loop t body
         → bytes ≡ 0x03 ∷ block_type_byte t ∷ (code ++ 0x0b ∷ []) → IsCode (labels + 1) body code → IsInstr labels i bytes
-    one_side : (labels : ℕ) (i : Instr) (bytes : List ℕ) (t : Option ValueType) (side : List Instr) (code : List ℕ) → labels < 1024 → i ≡ If t side []
+    one_side : (labels : ℕ) (i : Instr) (bytes : List ℕ) (t : Option ValueType) (side : List Instr) (code : List ℕ) → labels < MOST_LABELS → i ≡ If t side []
         → bytes ≡ 0x04 ∷ block_type_byte t ∷ (code ++ 0x0b ∷ []) → IsCode (labels + 1) side code → IsInstr labels i bytes
-    two_sides : (labels : ℕ) (i : Instr) (bytes : List ℕ) (t : Option ValueType) (one other : List Instr) (code more : List ℕ) → labels < 1024 → i ≡ If t one other
+    two_sides : (labels : ℕ) (i : Instr) (bytes : List ℕ) (t : Option ValueType) (one other : List Instr) (code more : List ℕ) → labels < MOST_LABELS → i ≡ If t one other
         → bytes ≡ 0x04 ∷ block_type_byte t ∷ (code ++ 0x05 ∷ (more ++ 0x0b ∷ [])) → IsCode (labels + 1) one code → IsCode (labels + 1) other more → IsInstr labels i bytes
 
   pub data IsCode : ℕ → List Instr → List ℕ → Type 0 where
@@ -222,11 +223,11 @@ parameters_in (Some t) = length t.parameters
 
 -- the code of the function of this number
 abbrev pub IsCodeEntry : Module → ℕ → CodeEntry → List ℕ → Type 0
-IsCodeEntry m k c bytes = (parameters_in (defined_type m k) + count_locals c.locals ≤ 4400)
+IsCodeEntry m k c bytes = (parameters_in (defined_type m k) + count_locals c.locals ≤ MOST_LOCALS)
     × Sized (Then (IsList (λ _. IsGroup) c.locals) (Then (IsCode 0 c.body) IsEnd)) bytes
 
 abbrev pub IsSegment : Module → DataSegment → List ℕ → Type 0
-IsSegment m s bytes = (s.offset + length s.bytes ≤ least m.memories * 65536)
+IsSegment m s bytes = (s.offset + length s.bytes ≤ least m.memories * PAGE)
     × Then (IsIndex (length m.memories) 0) (Then (IsConstant (value.I32 s.offset)) (Sized (λ b. b ≡ s.bytes))) bytes
 
 -- ---- sections
@@ -249,12 +250,12 @@ pub record IsSection {A : Type 0} (id : ℕ) (one : List A → A → List ℕ �
 
 -- the numbers of the entries of a module are within the limits, and each defined function has code
 pub record CountsAreWithin (m : Module) : Type 0 where
-  pub types : length m.types ≤ 10000
-  pub functions : length m.functions ≤ 10000
+  pub types : length m.types ≤ MOST_TYPES
+  pub functions : length m.functions ≤ MOST_FUNCTIONS
   pub tables : length m.tables ≤ 1
   pub memories : length m.memories ≤ 1
-  pub globals : length m.globals ≤ 100
-  pub exports : length m.exports ≤ 10000
+  pub globals : length m.globals ≤ MOST_GLOBALS
+  pub exports : length m.exports ≤ MOST_EXPORTS
   pub codes : length m.codes ≡ length m.functions
 
 abbrev pub AreSections : Module → List ℕ → Type 0

@@ -1,6 +1,7 @@
 pub mod Bytes
 pub mod Integers
 pub mod Leb
+pub mod Limits
 pub mod Opcode
 pub mod Shortest
 pub mod Steps

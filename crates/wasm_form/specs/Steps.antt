@@ -6,6 +6,7 @@ use Rattle.std.specs.Fmt.{signed_decimal}
 use Rattle.wasm_form.specs.declared.instr.Instr.{Instr, out-Instr}
 use Rattle.wasm_form.specs.declared.instr.Instr.TheOpen.{Instr-F}
 use Rattle.wasm_form.specs.declared.instr.Instr.TheOpen as F
+use Rattle.wasm_form.specs.declared.limits.TheConstants.{PAGE, MOST_FRAMES, MOST_OPERANDS}
 use Rattle.wasm_form.specs.declared.module.Module.{Module}
 use Rattle.wasm_form.specs.declared.module.HostCall.{HostCall}
 use Rattle.wasm_form.specs.declared.module.HostCall.TheVariants.{WriteInt, WriteBool, WriteText, WriteByte, ReadInt, Trap}
@@ -177,7 +178,7 @@ two64 c = do
 
 -- a push, which is one operand more
 unfoldable pub pushed : Value → Config → Next
-pushed v c = if nat_lt (operands c) 1048576 then Goes (with_values (v ∷ c.values) c) else Traps TOO_MANY_OPERANDS 0
+pushed v c = if nat_lt (operands c) MOST_OPERANDS then Goes (with_values (v ∷ c.values) c) else Traps TOO_MANY_OPERANDS 0
 
 -- the answer of what took an operand or more
 unfoldable pub given : Value → Config → Next
@@ -351,7 +352,7 @@ framed args t f c = record c { code = f.body; values = []; layers = Frame (drop 
 unfoldable pub called : FunctionType → CodeEntry → Config → Next
 called t f c =
     if typed (reverse (take (length t.parameters) c.values)) t.parameters
-    then (if nat_lt (frames c.layers) 1001 then Goes (framed (reverse (take (length t.parameters) c.values)) t f c) else Traps TOO_MANY_FRAMES 0)
+    then (if nat_lt (frames c.layers) MOST_FRAMES then Goes (framed (reverse (take (length t.parameters) c.values)) t f c) else Traps TOO_MANY_FRAMES 0)
     else Stuck
 
 -- the type of a defined function, counted from the first of them
@@ -637,7 +638,7 @@ abbrev pub table_of : Module → List (Option ℕ)
 table_of m = with_elements m.elements (replicate (least m.tables) None)
 
 abbrev pub memory_of : Module → List ℕ
-memory_of m = with_segments m.segments (replicate (least m.memories * 65536) 0)
+memory_of m = with_segments m.segments (replicate (least m.memories * PAGE) 0)
 
 -- before the first step: in the frame of main, with all locals 0 and the segments stored
 unfoldable pub started : Module → CodeEntry → List ℤ → Config

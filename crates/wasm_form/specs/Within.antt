@@ -3,6 +3,7 @@ use Rattle.std.specs.Prelude.{◌≡◌, ℕ, ◌+◌, ◌-◌, ◌*◌, ◌≤�
 use Rattle.wasm_form.specs.declared.instr.Instr.{Instr, fold-Instr}
 use Rattle.wasm_form.specs.declared.instr.Instr.TheOpen.{Instr-F}
 use Rattle.wasm_form.specs.declared.instr.Instr.TheOpen as F
+use Rattle.wasm_form.specs.declared.limits.TheConstants.{MOST_LOCALS, MOST_LABELS, MOST_TABLE, MOST_PAGES, PAGE}
 use Rattle.wasm_form.specs.declared.module.Module.{Module}
 use Rattle.wasm_form.specs.declared.module.CodeEntry.{CodeEntry}
 use Rattle.wasm_form.specs.declared.module.LocalGroup.{LocalGroup}
@@ -34,17 +35,17 @@ abbrev pub count_locals : List LocalGroup → ℕ
 count_locals [] = 0
 count_locals (g ∷ gs) = g.count + count_locals gs
 
--- a function has at most 4,400 locals, its parameters counted, and at most 1,024 labels nest in it
+-- a function has few locals, its parameters counted, and few labels nest in it
 pub record FunctionIsWithin (t : FunctionType) (f : CodeEntry) : Type 0 where
-  pub locals : length t.parameters + count_locals f.locals ≤ 4400
-  pub labels : nest f.body ≤ 1024
+  pub locals : length t.parameters + count_locals f.locals ≤ MOST_LOCALS
+  pub labels : nest f.body ≤ MOST_LABELS
 
 -- an element segment lies within the least size of the table, and a data segment within that of the memory
 abbrev pub ElementIsWithin : Module → ElementSegment → Type 0
 ElementIsWithin m s = s.offset + length s.functions ≤ least m.tables
 
 abbrev pub SegmentIsWithin : Module → DataSegment → Type 0
-SegmentIsWithin m s = s.offset + length s.bytes ≤ least m.memories * 65536
+SegmentIsWithin m s = s.offset + length s.bytes ≤ least m.memories * PAGE
 
 -- the export main is a defined function without parameters and results
 pub record HasMain (m : Module) : Type 0 where
@@ -61,7 +62,7 @@ pub record HasMain (m : Module) : Type 0 where
 pub record IsWithin (m : Module) : Type 0 where
   pub main : HasMain m
   pub functions : (k : ℕ) (t : FunctionType) (f : CodeEntry) → defined_type m k ≡ Some t → slice_get m.codes k ≡ Some f → FunctionIsWithin t f
-  pub table : least m.tables ≤ 16384
-  pub pages : least m.memories ≤ 272
+  pub table : least m.tables ≤ MOST_TABLE
+  pub pages : least m.memories ≤ MOST_PAGES
   pub elements : All (ElementIsWithin m) m.elements
   pub segments : All (SegmentIsWithin m) m.segments

@@ -1,5 +1,5 @@
 use crate::types::BlockType;
-use sqlite_items::Items;
+use sqlite_items::{Boxed, Items};
 
 /// The alignment, as the power of two that it is, and the offset of an access, in bytes
 /// (Core 1.0, 2.4.4). The alignment changes nothing.
@@ -10,6 +10,8 @@ pub struct MemArg {
 }
 
 /// An instruction: one variant for each opcode, in their order (Core 1.0, 2.4 and 5.4).
+///
+/// A long code is millions of these, so what makes one larger than 32 bytes stands in a box.
 #[derive(Drop)]
 pub enum Instr {
     // Controls (Core 1.0, 2.4.5).
@@ -18,11 +20,11 @@ pub enum Instr {
     Block(BlockType, Items<Instr>),
     Loop(BlockType, Items<Instr>),
     /// The side for a number that is not 0, and then that for 0.
-    If(BlockType, Items<Instr>, Items<Instr>),
+    If(BlockType, Boxed<Items<Instr>>, Boxed<Items<Instr>>),
     Br(u32),
     BrIf(u32),
     /// The labels of 0 and on, and then the default.
-    BrTable(Items<u32>, u32),
+    BrTable(Boxed<Items<u32>>, u32),
     Return,
     Call(u32),
     /// The index of a type.
@@ -128,3 +130,5 @@ pub enum Instr {
     I64ExtendI32S,
     I64ExtendI32U,
 }
+
+const _: () = prove!(size_of::<Instr>() <= 32);

@@ -1,3 +1,5 @@
+ghost use Rattle.wasm_form.specs.Limits.{LimitsAreThese};
+
 /// The most types of a module.
 pub const MOST_TYPES: u32 = 10_000;
 /// The most functions that a module defines.
@@ -24,6 +26,11 @@ pub const PAGE: u32 = 65_536;
 pub const MOST_FRAMES: u32 = 1_001;
 /// The most operands of a run, of all frames: a push that would make one more traps with code 17.
 pub const MOST_OPERANDS: u32 = 1_048_576;
+
+/// The constants are the numbers that the definitions name.
+pub fn limits_are_these()
+    ensures { LimitsAreThese }
+{}
 
 /// A limit of a module that is passed.
 #[derive(Clone, Copy, Debug, PartialEq, Eq)]

@@ -1,5 +1,7 @@
 //! The codes of the traps that the machine itself makes, all with the offset 0.
 
+ghost use Rattle.wasm_form.specs.Limits.{TrapCodesAreThese};
+
 /// A call would make one frame too many.
 pub const TOO_MANY_FRAMES: u32 = 3;
 /// `unreachable` was executed.
@@ -21,3 +23,8 @@ pub const TOO_MANY_OPERANDS: u32 = 17;
 /// The machine is stuck: an operand is missing or of another type, an index names nothing, or a
 /// function's end is reached with other values than its result.
 pub const STUCK: u32 = 18;
+
+/// The constants are the numbers that the definitions name.
+pub fn trap_codes_are_these()
+    ensures { TrapCodesAreThese }
+{}

@@ -15,6 +15,7 @@ use Rattle.wasm_read.specs.Reading.{◌>>=◌, FailsAs, end_at}
 use Rattle.wasm_read.specs.Types.{block_type_at}
 use Rattle.wasm_read.specs.Codes.{Coded, stops_at, nested_with, closed_with, second_with, sides_with, with_label, instr_with, code_with, code_at, code_all}
 use Rattle.wasm_read.proofs.Leads.{Leads, done, leads_ok, leads_err, leads_then, leads_if, byte_then, end_leads, plain_leads, block_type_leads}
+use Rattle.wasm_form.specs.declared.limits.TheConstants.{MOST_LABELS}
 
 -- ---- the fuel does not matter
 
@@ -58,7 +59,7 @@ instr_same k k' labels (b ∷ rest) l a =
     rw (nested_same k k' labels rest less, sides_same k k' labels rest l less) refl
 
 label_leads : {A : Type 0} (n labels : ℕ) (r : Result (A × List ℕ) Fault) → Leads n r → Leads n (with_label labels r)
-label_leads {A} n labels r l = leads_if n (labels == 1024) _ _ (leads_err A n (Limit limit.Labels)) l
+label_leads {A} n labels r l = leads_if n (labels == MOST_LABELS) _ _ (leads_err A n (Limit limit.Labels)) l
 
 nested_leads : (k : Coded) (labels : ℕ) (rest : List ℕ) → Leaves k → Leads (length rest) (nested_with k labels rest)
 unfolding nested_with

@@ -22,6 +22,7 @@ use Rattle.wasm_read.proofs.Exact.{Takes, Exact, left_with}
 use Rattle.wasm_read.proofs.ExactTypes.{value_found}
 use Rattle.wasm_read.proofs.Parts.{two_parts, takes_end}
 use Rattle.wasm_read.proofs.ExactPlain.{exact_plain}
+use Rattle.wasm_form.specs.declared.limits.TheConstants.{MOST_LABELS}
 
 -- ---- types of blocks, and labels
 
@@ -44,23 +45,23 @@ block_type_only None rest = refl
 block_type_only (Some value_type.I32) rest = refl
 block_type_only (Some value_type.I64) rest = refl
 
-label_found : {A : Type 0} (labels : ℕ) (r : Result (A × List ℕ) Fault) (x : A × List ℕ) → labels ≤ 1024 → with_label labels r ≡ Ok x → (labels < 1024) × (r ≡ Ok x)
-label_found labels r x le e = elim (chosen (labels == 1024) _ _ _ e) [
+label_found : {A : Type 0} (labels : ℕ) (r : Result (A × List ℕ) Fault) (x : A × List ℕ) → labels ≤ MOST_LABELS → with_label labels r ≡ Ok x → (labels < MOST_LABELS) × (r ≡ Ok x)
+label_found labels r x le e = elim (chosen (labels == MOST_LABELS) _ _ _ e) [
   | inl p ↦ absurd cc
-  | inr p ↦ let other = eqb-false labels 1024 p.0 in (omega (arith, le, other), p.1)
+  | inr p ↦ let other = eqb-false labels MOST_LABELS p.0 in (omega (arith, le, other), p.1)
 ]
 
-label_only : (labels : ℕ) → labels < 1024 → eqb labels 1024 ≡ false
+label_only : (labels : ℕ) → labels < MOST_LABELS → eqb labels MOST_LABELS ≡ false
 label_only labels lt = grind (arith, lt)
 
 -- ---- what is read is spelled so
 
 -- by this function every list is
 abbrev Finds : Coded → Type 0
-Finds k = (labels : ℕ) (bytes : List ℕ) (x : List Instr × List ℕ) → labels ≤ 1024 → k labels bytes ≡ Ok x → Takes (IsCode labels x.0) bytes x.1
+Finds k = (labels : ℕ) (bytes : List ℕ) (x : List Instr × List ℕ) → labels ≤ MOST_LABELS → k labels bytes ≡ Ok x → Takes (IsCode labels x.0) bytes x.1
 
 -- a list and its end
-closed_found : (k : Coded) → Finds k → (labels : ℕ) (bytes : List ℕ) (x : List Instr × List ℕ) → labels ≤ 1024 → closed_with k labels bytes ≡ Ok x → (code : List ℕ) × (bytes ≡ code ++ 0x0b ∷ x.1) × IsCode labels x.0 code
+closed_found : (k : Coded) → Finds k → (labels : ℕ) (bytes : List ℕ) (x : List Instr × List ℕ) → labels ≤ MOST_LABELS → closed_with k labels bytes ≡ Ok x → (code : List ℕ) × (bytes ≡ code ++ 0x0b ∷ x.1) × IsCode labels x.0 code
 closed_found k finds labels bytes x le e =
     let c = bind_ok (k labels bytes) (λ y. end_at y.1 >>= λ r. left_with y.0 r) x e in
     let d = bind_ok (end_at c.0.1) (λ r. left_with c.0.0 r) x c.2 in
@@ -71,12 +72,12 @@ closed_found k finds labels bytes x le e =
 
 -- a block behind its opcode
 record IsNested (labels : ℕ) (rest : List ℕ) (x : (Option ValueType × List Instr) × List ℕ) : Type 0 where
-  few : labels < 1024
+  few : labels < MOST_LABELS
   code : List ℕ
   parts : rest ≡ block_type_byte x.0.0 ∷ (code ++ 0x0b ∷ x.1)
   is : IsCode (labels + 1) x.0.1 code
 
-nested_found : (k : Coded) → Finds k → (labels : ℕ) (rest : List ℕ) (x : (Option ValueType × List Instr) × List ℕ) → labels ≤ 1024 → nested_with k labels rest ≡ Ok x → IsNested labels rest x
+nested_found : (k : Coded) → Finds k → (labels : ℕ) (rest : List ℕ) (x : (Option ValueType × List Instr) × List ℕ) → labels ≤ MOST_LABELS → nested_with k labels rest ≡ Ok x → IsNested labels rest x
 unfolding nested_with
 nested_found k finds labels rest x le e =
     let few = label_found labels _ x le e in
@@ -99,7 +100,7 @@ IsSecond labels bytes x = ((x.0 ≡ []) × (bytes ≡ 0x0b ∷ x.1)) ⊎ ((code 
 no_side : List Instr
 no_side = []
 
-second_found : (k : Coded) → Finds k → (labels : ℕ) (bytes : List ℕ) (x : List Instr × List ℕ) → labels ≤ 1024 → second_with k labels bytes ≡ Ok x → IsSecond labels bytes x
+second_found : (k : Coded) → Finds k → (labels : ℕ) (bytes : List ℕ) (x : List Instr × List ℕ) → labels ≤ MOST_LABELS → second_with k labels bytes ≡ Ok x → IsSecond labels bytes x
 unfolding second_with
 second_found k finds labels [] x le e = absurd cc
 second_found k finds labels (b ∷ rest) x le e = elim (chosen (b == 0x05) _ _ _ e) [
@@ -114,14 +115,14 @@ second_found k finds labels (b ∷ rest) x le e = elim (chosen (b == 0x05) _ _ _
 
 -- an if behind its opcode
 record AreSides (labels : ℕ) (rest : List ℕ) (x : (Option ValueType × List Instr × List Instr) × List ℕ) : Type 0 where
-  few : labels < 1024
+  few : labels < MOST_LABELS
   code : List ℕ
   after : List ℕ
   parts : rest ≡ block_type_byte x.0.0 ∷ (code ++ after)
   is : IsCode (labels + 1) x.0.1 code
   second : IsSecond (labels + 1) after (x.0.2, x.1)
 
-sides_found : (k : Coded) → Finds k → (labels : ℕ) (rest : List ℕ) (x : (Option ValueType × List Instr × List Instr) × List ℕ) → labels ≤ 1024 → sides_with k labels rest ≡ Ok x → AreSides labels rest x
+sides_found : (k : Coded) → Finds k → (labels : ℕ) (rest : List ℕ) (x : (Option ValueType × List Instr × List Instr) × List ℕ) → labels ≤ MOST_LABELS → sides_with k labels rest ≡ Ok x → AreSides labels rest x
 unfolding sides_with
 sides_found k finds labels rest x le e =
     let few = label_found labels _ x le e in
@@ -158,7 +159,7 @@ sides_instr labels b rest x opcode s = elim s.second [
   }
 ]
 
-instr_found : (k : Coded) → Finds k → (labels : ℕ) (bytes : List ℕ) (x : Instr × List ℕ) → labels ≤ 1024 → instr_with k labels bytes ≡ Ok x → Takes (IsInstr labels x.0) bytes x.1
+instr_found : (k : Coded) → Finds k → (labels : ℕ) (bytes : List ℕ) (x : Instr × List ℕ) → labels ≤ MOST_LABELS → instr_with k labels bytes ≡ Ok x → Takes (IsInstr labels x.0) bytes x.1
 unfolding instr_with
 instr_found k finds labels [] x le e = absurd cc
 instr_found k finds labels (b ∷ rest) x le e = elim (chosen (b == 0x02) _ _ _ e) [
@@ -243,15 +244,15 @@ plain_reads labels i (b ∷ bytes) rest h =
       read = rw (same 0x02 p.0, same 0x03 p.1, same 0x04 p.2) ((exact_plain b).only i bytes rest h);
     }
 
-nested_only : (labels : ℕ) (t : Option ValueType) (body : List Instr) (code rest : List ℕ) → labels < 1024 → code_all (labels + 1) (code ++ 0x0b ∷ rest) ≡ Ok (body, 0x0b ∷ rest) → nested_with code_all labels (block_type_byte t ∷ (code ++ 0x0b ∷ rest)) ≡ Ok ((t, body), rest)
+nested_only : (labels : ℕ) (t : Option ValueType) (body : List Instr) (code rest : List ℕ) → labels < MOST_LABELS → code_all (labels + 1) (code ++ 0x0b ∷ rest) ≡ Ok (body, 0x0b ∷ rest) → nested_with code_all labels (block_type_byte t ∷ (code ++ 0x0b ∷ rest)) ≡ Ok ((t, body), rest)
 unfolding nested_with
 nested_only labels t body code rest few inner = rw (label_only labels few, block_type_only t (code ++ 0x0b ∷ rest), inner) refl
 
-one_only : (labels : ℕ) (t : Option ValueType) (side : List Instr) (code rest : List ℕ) → labels < 1024 → code_all (labels + 1) (code ++ 0x0b ∷ rest) ≡ Ok (side, 0x0b ∷ rest) → sides_with code_all labels (block_type_byte t ∷ (code ++ 0x0b ∷ rest)) ≡ Ok ((t, side, []), rest)
+one_only : (labels : ℕ) (t : Option ValueType) (side : List Instr) (code rest : List ℕ) → labels < MOST_LABELS → code_all (labels + 1) (code ++ 0x0b ∷ rest) ≡ Ok (side, 0x0b ∷ rest) → sides_with code_all labels (block_type_byte t ∷ (code ++ 0x0b ∷ rest)) ≡ Ok ((t, side, []), rest)
 unfolding sides_with second_with
 one_only labels t side code rest few inner = rw (label_only labels few, block_type_only t (code ++ 0x0b ∷ rest), inner) refl
 
-two_only : (labels : ℕ) (t : Option ValueType) (one other : List Instr) (code more rest : List ℕ) → labels < 1024 → code_all (labels + 1) (code ++ 0x05 ∷ (more ++ 0x0b ∷ rest)) ≡ Ok (one, 0x05 ∷ (more ++ 0x0b ∷ rest)) → code_all (labels + 1) (more ++ 0x0b ∷ rest) ≡ Ok (other, 0x0b ∷ rest)
+two_only : (labels : ℕ) (t : Option ValueType) (one other : List Instr) (code more rest : List ℕ) → labels < MOST_LABELS → code_all (labels + 1) (code ++ 0x05 ∷ (more ++ 0x0b ∷ rest)) ≡ Ok (one, 0x05 ∷ (more ++ 0x0b ∷ rest)) → code_all (labels + 1) (more ++ 0x0b ∷ rest) ≡ Ok (other, 0x0b ∷ rest)
     → sides_with code_all labels (block_type_byte t ∷ (code ++ 0x05 ∷ (more ++ 0x0b ∷ rest))) ≡ Ok ((t, one, other), rest)
 unfolding sides_with second_with
 two_only labels t one other code more rest few first second = rw (label_only labels few, block_type_only t (code ++ 0x05 ∷ (more ++ 0x0b ∷ rest)), first, second) refl

@@ -5,6 +5,7 @@ use Rattle.std.proofs.lemmas.Bool.{eqb-true}
 use Rattle.std.proofs.lemmas.Bool.Decides.{Decides-eqb}
 use Rattle.std.proofs.lemmas.Option.{get_or_from_slice_get, slice_get_within}
 use Rattle.wasm_form.specs.declared.types.FunctionType.{FunctionType}
+use Rattle.wasm_form.specs.declared.limits.TheConstants.{MOST_TYPES, MOST_FUNCTIONS, MOST_GLOBALS, MOST_EXPORTS, MOST_PARAMETERS, MOST_LOCALS}
 use Rattle.wasm_form.specs.declared.module.ExportKind.{ExportKind}
 use Rattle.wasm_form.specs.declared.module.ExportKind.TheVariants as kind
 use Rattle.wasm_form.specs.declared.module.CodeEntry.{CodeEntry}
@@ -45,21 +46,21 @@ exact_any one r exact = exact_as (IsList one) (λ xs bytes. Any xs × IsList one
 abbrev pub AtMost : {A : Type 0} → ℕ → List A → Type 0
 AtMost most xs = length xs ≤ most
 
-pub types_exact : Exact (λ ts bytes. AtMost 10000 ts × IsList (λ _. IsType) ts bytes) types_at
+pub types_exact : Exact (λ ts bytes. AtMost MOST_TYPES ts × IsList (λ _. IsType) ts bytes) types_at
 unfolding types_at
-types_exact = exact_counted 10000 (Limit limit.Types) (λ _. IsType) (λ _. types.type_at) (λ _. exact_type)
+types_exact = exact_counted MOST_TYPES (Limit limit.Types) (λ _. IsType) (λ _. types.type_at) (λ _. exact_type)
 
 pub imports_exact : (ts : List FunctionType) → Exact (λ is bytes. Any is × IsList (IsImport ts) is bytes) (imports_at ts)
 unfolding imports_at
 imports_exact ts = exact_any (IsImport ts) (imports_at ts) (exact_list (IsImport ts) (import_at ts) (exact_import ts))
 
-pub functions_exact : (n : ℕ) → Exact (λ fs bytes. AtMost 10000 fs × IsList (λ _. IsIndex n) fs bytes) (functions_at n)
+pub functions_exact : (n : ℕ) → Exact (λ fs bytes. AtMost MOST_FUNCTIONS fs × IsList (λ _. IsIndex n) fs bytes) (functions_at n)
 unfolding functions_at
-functions_exact n = exact_counted 10000 (Limit limit.Functions) (λ _. IsIndex n) (λ _. reading.index_at n) (λ _. exact_index n)
+functions_exact n = exact_counted MOST_FUNCTIONS (Limit limit.Functions) (λ _. IsIndex n) (λ _. reading.index_at n) (λ _. exact_index n)
 
-pub globals_exact : Exact (λ gs bytes. AtMost 100 gs × IsList (λ _. IsGlobal) gs bytes) globals_at
+pub globals_exact : Exact (λ gs bytes. AtMost MOST_GLOBALS gs × IsList (λ _. IsGlobal) gs bytes) globals_at
 unfolding globals_at
-globals_exact = exact_counted 100 (Limit limit.Globals) (λ _. IsGlobal) (λ _. global_at) (λ _. exact_global)
+globals_exact = exact_counted MOST_GLOBALS (Limit limit.Globals) (λ _. IsGlobal) (λ _. global_at) (λ _. exact_global)
 
 -- what an export can name
 counts_same : (first m : Module) → first.imports ≡ m.imports → first.functions ≡ m.functions → first.tables ≡ m.tables → first.memories ≡ m.memories → (k : ExportKind) → count_of (counts_of first m.globals) k ≡ kind_count m k
@@ -68,9 +69,9 @@ counts_same first m i f t s kind.Table = ap length t
 counts_same first m i f t s kind.Memory = ap length s
 counts_same first m i f t s kind.Global = refl
 
-pub exports_exact : (first m : Module) → first.imports ≡ m.imports → first.functions ≡ m.functions → first.tables ≡ m.tables → first.memories ≡ m.memories → Exact (λ es bytes. AtMost 10000 es × IsList (IsExport m) es bytes) (exports_at (counts_of first m.globals))
+pub exports_exact : (first m : Module) → first.imports ≡ m.imports → first.functions ≡ m.functions → first.tables ≡ m.tables → first.memories ≡ m.memories → Exact (λ es bytes. AtMost MOST_EXPORTS es × IsList (IsExport m) es bytes) (exports_at (counts_of first m.globals))
 unfolding exports_at
-exports_exact first m i f t s = exact_counted 10000 (Limit limit.Exports) (IsExport m) (export_at (counts_of first m.globals)) (exact_export m (counts_of first m.globals) (counts_same first m i f t s))
+exports_exact first m i f t s = exact_counted MOST_EXPORTS (Limit limit.Exports) (IsExport m) (export_at (counts_of first m.globals)) (exact_export m (counts_of first m.globals) (counts_same first m i f t s))
 
 pub elements_exact : (m : Module) → length m.tables ≤ 1 → Exact (λ es bytes. Any es × IsList (λ _. IsElement m) es bytes) (elements_at m.tables (function_count m))
 unfolding elements_at
@@ -92,7 +93,7 @@ Items m n cs bytes = (length cs ≡ n) × AreItems (Code m) [] cs bytes
 abbrev Numbered : Module → ℕ → List CodeEntry → List ℕ → Type 0
 Numbered m n cs bytes = (eqb n (length m.functions) ≡ true) × Items m n cs bytes
 
-pub codes_exact : (m : Module) → ((k : ℕ) → parameters_in (defined_type m k) ≤ 4400) → Exact (λ cs bytes. AsMany m cs × IsList (Code m) cs bytes) (codes_at m.types m.functions)
+pub codes_exact : (m : Module) → ((k : ℕ) → parameters_in (defined_type m k) ≤ MOST_LOCALS) → Exact (λ cs bytes. AsMany m cs × IsList (Code m) cs bytes) (codes_at m.types m.functions)
 unfolding codes_at
 codes_exact m some =
     exact_as (λ cs bytes. (n : ℕ) × Then (IsU32 n) (Numbered m n cs) bytes) (λ cs bytes. AsMany m cs × IsList (Code m) cs bytes) (codes_at m.types m.functions)
@@ -106,22 +107,22 @@ codes_exact m some =
     (λ cs bytes h. let t = h.1 in (length cs, record { front = t.front; back = t.back; parts = t.parts; first = t.first; second = ((Decides-eqb (length cs) (length m.functions)).1 h.0, (refl, t.second)) }))
 
 -- each type has at most 64 parameters
-pub few_parameters : (m : Module) → ((k : ℕ) (d : FunctionType) → k < length m.types → length (get_or m.types k d).parameters ≤ 64) → (k : ℕ) → parameters_in (defined_type m k) ≤ 4400
+pub few_parameters : (m : Module) → ((k : ℕ) (d : FunctionType) → k < length m.types → length (get_or m.types k d).parameters ≤ MOST_PARAMETERS) → (k : ℕ) → parameters_in (defined_type m k) ≤ MOST_LOCALS
 few_parameters m each k = of_index (slice_get m.functions k)
   where
-    of_type : (i : ℕ) (o : Option FunctionType) → slice_get m.types i ≡ o → parameters_in o ≤ 4400
+    of_type : (i : ℕ) (o : Option FunctionType) → slice_get m.types i ≡ o → parameters_in o ≤ MOST_LOCALS
     of_type i None is = omega arith
     of_type i (Some t) is =
         let le = each i t (slice_get_within m.types i t is) in
         let same = ap (λ (u : FunctionType). length u.parameters) (get_or_from_slice_get m.types i t t is) in
         omega (arith, le, same)
 
-    of_index : (o : Option ℕ) → parameters_in (step.◌>>=◌ o (λ i. slice_get m.types i)) ≤ 4400
+    of_index : (o : Option ℕ) → parameters_in (step.◌>>=◌ o (λ i. slice_get m.types i)) ≤ MOST_LOCALS
     of_index None = omega arith
     of_index (Some i) = of_type i (slice_get m.types i) refl
 
-pub few_by : (m : Module) (bytes : List ℕ) → IsSection 1 (λ _. IsType) m.types bytes → (k : ℕ) → parameters_in (defined_type m k) ≤ 4400
-few_by m bytes h = few_parameters m (all_in 1 (λ _. IsType) (λ _ t. length t.parameters ≤ 64) (λ before t bs e. e.0) m.types bytes h)
+pub few_by : (m : Module) (bytes : List ℕ) → IsSection 1 (λ _. IsType) m.types bytes → (k : ℕ) → parameters_in (defined_type m k) ≤ MOST_LOCALS
+few_by m bytes h = few_parameters m (all_in 1 (λ _. IsType) (λ _ t. length t.parameters ≤ MOST_PARAMETERS) (λ before t bs e. e.0) m.types bytes h)
 
 -- ---- what is read is spelled so
 
@@ -133,7 +134,7 @@ abbrev pub FoundCodes : Module → List ℕ → List CodeEntry × List ℕ → T
 FoundCodes m bytes x = (AsMany m x.0 ⊎ Starts x.1) × Takes (IsSection 10 (Code m) x.0) bytes x.1
 
 -- the section of the codes, or a start section, which is refused later
-pub codes_found : (m : Module) → ((k : ℕ) → parameters_in (defined_type m k) ≤ 4400) → (bytes : List ℕ) (x : List CodeEntry × List ℕ) → codes_section_at m.types m.functions bytes ≡ Ok x → FoundCodes m bytes x
+pub codes_found : (m : Module) → ((k : ℕ) → parameters_in (defined_type m k) ≤ MOST_LOCALS) → (bytes : List ℕ) (x : List CodeEntry × List ℕ) → codes_section_at m.types m.functions bytes ≡ Ok x → FoundCodes m bytes x
 unfolding codes_section_at
 codes_found m some bytes x e =
     let k = bind_ok (customs_at bytes) (codes_by m.types m.functions) x e in

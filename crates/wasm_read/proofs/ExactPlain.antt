@@ -20,6 +20,7 @@ use Rattle.wasm_read.proofs.Numbers.{chosen}
 use Rattle.wasm_read.proofs.Exact.{Takes, Exact, left_with, exact_u32, exact_number}
 use Rattle.wasm_read.proofs.ExactTypes.{exact_counted}
 use Rattle.wasm_read.proofs.Parts.{exact_as, exact_then, exact_map, exact_ending, takes_zero}
+use Rattle.wasm_form.specs.declared.limits.TheConstants.{MOST_TARGETS}
 
 -- ---- what follows the opcode, by its kind
 
@@ -41,14 +42,14 @@ exact_access =
 exact_accessed : (make : MemArg → Instr) → Exact (λ i bytes. (m : MemArg) × (make m ≡ i) × IsAccess m bytes) (λ bytes. access_at bytes >>= λ m. Ok (make m.0, m.1))
 exact_accessed make = exact_map IsAccess access_at make exact_access
 
-exact_labels : Exact (λ ls bytes. (length ls ≤ 4096) × IsList (λ _. IsU32) ls bytes) labels_at
+exact_labels : Exact (λ ls bytes. (length ls ≤ MOST_TARGETS) × IsList (λ _. IsU32) ls bytes) labels_at
 unfolding labels_at
-exact_labels = exact_counted 4096 (Limit limit.Targets) (λ _. IsU32) (λ _. u32_at) (λ _. exact_u32)
+exact_labels = exact_counted MOST_TARGETS (Limit limit.Targets) (λ _. IsU32) (λ _. u32_at) (λ _. exact_u32)
 
-exact_br_table : Exact (λ i bytes. (ls : List ℕ) × Then (λ bs. (length ls ≤ 4096) × IsList (λ _. IsU32) ls bs) (λ bs. (l : ℕ) × (roll-Instr (F.BrTable ls l) ≡ i) × IsU32 l bs) bytes) br_table_at
+exact_br_table : Exact (λ i bytes. (ls : List ℕ) × Then (λ bs. (length ls ≤ MOST_TARGETS) × IsList (λ _. IsU32) ls bs) (λ bs. (l : ℕ) × (roll-Instr (F.BrTable ls l) ≡ i) × IsU32 l bs) bytes) br_table_at
 unfolding br_table_at
 exact_br_table =
-    exact_then (λ ls bs. (length ls ≤ 4096) × IsList (λ _. IsU32) ls bs) (λ ls i bs. (l : ℕ) × (roll-Instr (F.BrTable ls l) ≡ i) × IsU32 l bs)
+    exact_then (λ ls bs. (length ls ≤ MOST_TARGETS) × IsList (λ _. IsU32) ls bs) (λ ls i bs. (l : ℕ) × (roll-Instr (F.BrTable ls l) ≡ i) × IsU32 l bs)
     labels_at (λ ls bytes. u32_at bytes >>= λ l. Ok (roll-Instr (F.BrTable ls l.0), l.1)) exact_labels (λ ls. exact_map IsU32 u32_at (λ l. roll-Instr (F.BrTable ls l)) exact_u32)
 
 exact_call_indirect : Exact (λ i bytes. (t : ℕ) × Then (IsU32 t) (λ bs. (roll-Instr (F.CallIndirect t) ≡ i) × Byte 0x00 Nothing bs) bytes) call_indirect_at

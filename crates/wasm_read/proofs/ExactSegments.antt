@@ -10,6 +10,7 @@ use Rattle.wasm_form.specs.declared.instr.Instr.{Instr}
 use Rattle.wasm_form.specs.declared.types.ValueType.{ValueType}
 use Rattle.wasm_form.specs.declared.types.Value.TheVariants as value
 use Rattle.wasm_form.specs.declared.types.FunctionType.{FunctionType}
+use Rattle.wasm_form.specs.declared.limits.TheConstants.{MOST_LOCALS, PAGE}
 use Rattle.wasm_form.specs.declared.module.ElementSegment.{ElementSegment}
 use Rattle.wasm_form.specs.declared.module.LocalGroup.{LocalGroup}
 use Rattle.wasm_form.specs.declared.module.CodeEntry.{CodeEntry}
@@ -165,7 +166,7 @@ module _ (m : Module) (few : length m.memories ≤ 1) where
   AreBytes offset n s bytes = (b : List ℕ) × (a_segment offset b ≡ s) × ((length b ≡ n) × (bytes ≡ b))
 
   abbrev IsHeld : ℕ → DataSegment → List ℕ → Type 0
-  IsHeld offset s bytes = (n : ℕ) × Then (λ bs. (offset + n ≤ least m.memories * 65536) × IsU32 n bs) (AreBytes offset n s) bytes
+  IsHeld offset s bytes = (n : ℕ) × Then (λ bs. (offset + n ≤ least m.memories * PAGE) × IsU32 n bs) (AreBytes offset n s) bytes
 
   abbrev IsLaid : ℕ → DataSegment → List ℕ → Type 0
   IsLaid t s bytes = (offset : ℕ) × Then (IsConstant (value.I32 offset)) (IsHeld offset s) bytes
@@ -178,7 +179,7 @@ module _ (m : Module) (few : length m.memories ≤ 1) where
       let c = b.second.1 in
       let d = c.second in
       let memory : IsIndex (length m.memories) 0 a.front = subst (λ t. IsIndex (length m.memories) t a.front) (only_zero h.0 (length m.memories) few a.first.0) a.first in
-      let within : offset + length d.0 ≤ least m.memories * 65536 = let e = d.2.0 in let le = c.first.0 in omega (arith, e, le) in
+      let within : offset + length d.0 ≤ least m.memories * PAGE = let e = d.2.0 in let le = c.first.0 in omega (arith, e, le) in
       let number : IsU32 (length c.back) c.front = subst (λ k. IsU32 k c.front) (sym (ap length d.2.1 ∙ d.2.0)) c.first.1 in
       subst (λ (y : DataSegment). IsSegment m y bytes) d.1 (
         within,
@@ -221,14 +222,14 @@ module _ (m : Module) (few : length m.memories ≤ 1) where
   exact_segment =
       exact_as (λ s bytes. (t : ℕ) × Then (IsIndex (length m.memories) t) (IsLaid t s) bytes) (IsSegment m) (segment_at m.memories)
       (exact_then (IsIndex (length m.memories)) IsLaid (index_at (length m.memories))
-      (λ t bytes. offset_at bytes >>= λ o. span_at (least m.memories * 65536) o.0 o.1 >>= λ n. bytes_at n.0 n.1 >>= λ b. left_with (a_segment o.0 b.0) b.1)
+      (λ t bytes. offset_at bytes >>= λ o. span_at (least m.memories * PAGE) o.0 o.1 >>= λ n. bytes_at n.0 n.1 >>= λ b. left_with (a_segment o.0 b.0) b.1)
       (exact_index (length m.memories))
       (λ t. exact_then (λ n bs. IsConstant (value.I32 n) bs) IsHeld offset_at
-      (λ o bytes. span_at (least m.memories * 65536) o bytes >>= λ n. bytes_at n.0 n.1 >>= λ b. left_with (a_segment o b.0) b.1)
+      (λ o bytes. span_at (least m.memories * PAGE) o bytes >>= λ n. bytes_at n.0 n.1 >>= λ b. left_with (a_segment o b.0) b.1)
       exact_offset
-      (λ o. exact_then (λ n bs. (o + n ≤ least m.memories * 65536) × IsU32 n bs) (AreBytes o) (span_at (least m.memories * 65536) o)
+      (λ o. exact_then (λ n bs. (o + n ≤ least m.memories * PAGE) × IsU32 n bs) (AreBytes o) (span_at (least m.memories * PAGE) o)
       (λ n bytes. bytes_at n bytes >>= λ b. left_with (a_segment o b.0) b.1)
-      (exact_span (least m.memories * 65536) o)
+      (exact_span (least m.memories * PAGE) o)
       (λ n. exact_map (λ b bs. (length b ≡ n) × (bs ≡ b)) (bytes_at n) (a_segment o) (exact_bytes n)))))
       segment_to segment_from
 
@@ -239,7 +240,7 @@ a_group count t = record { count = count; value_type = t }
 
 -- a group of locals behind so many
 abbrev IsGroupBehind : ℕ → LocalGroup → List ℕ → Type 0
-IsGroupBehind total g bytes = (total + g.count ≤ 4400) × IsGroup g bytes
+IsGroupBehind total g bytes = (total + g.count ≤ MOST_LOCALS) × IsGroup g bytes
 
 abbrev IsTypeOf : ℕ → LocalGroup → List ℕ → Type 0
 IsTypeOf n g bytes = (t : ValueType) × (a_group n t ≡ g) × IsValueType t bytes
@@ -247,13 +248,13 @@ IsTypeOf n g bytes = (t : ValueType) × (a_group n t ≡ g) × IsValueType t byt
 exact_group : (total : ℕ) → Exact (IsGroupBehind total) (group_at total)
 unfolding group_at
 exact_group total =
-    exact_as (λ g bytes. (n : ℕ) × Then (IsU32 n) (λ bs. (ltb 4400 (total + n) ≡ false) × IsTypeOf n g bs) bytes) (IsGroupBehind total) (group_at total)
-    (exact_then IsU32 (λ n g bs. (ltb 4400 (total + n) ≡ false) × IsTypeOf n g bs) u32_at (λ n bytes. cond (nat_lt 4400 (total + n)) (Err (Limit limit.Locals)) (value_type_at bytes >>= λ t. left_with (a_group n t.0) t.1)) exact_u32
-    (λ n. exact_unless (nat_lt 4400 (total + n)) (Limit limit.Locals) (IsTypeOf n) (λ bytes. value_type_at bytes >>= λ t. left_with (a_group n t.0) t.1) (exact_map IsValueType value_type_at (a_group n) exact_value_type)))
-    (λ g bytes h. let t = h.1 in subst (λ (y : LocalGroup). IsGroupBehind total y bytes) t.second.1.1 (ltb-false 4400 (total + h.0) t.second.0, record { front = t.front; back = t.back; parts = t.parts; first = t.first; second = t.second.1.2 }))
-    (λ g bytes h. let t = h.1 in (g.count, record { front = t.front; back = t.back; parts = t.parts; first = t.first; second = (le-ltb 4400 (total + g.count) h.0, (g.value_type, refl, t.second)) }))
+    exact_as (λ g bytes. (n : ℕ) × Then (IsU32 n) (λ bs. (ltb MOST_LOCALS (total + n) ≡ false) × IsTypeOf n g bs) bytes) (IsGroupBehind total) (group_at total)
+    (exact_then IsU32 (λ n g bs. (ltb MOST_LOCALS (total + n) ≡ false) × IsTypeOf n g bs) u32_at (λ n bytes. cond (nat_lt MOST_LOCALS (total + n)) (Err (Limit limit.Locals)) (value_type_at bytes >>= λ t. left_with (a_group n t.0) t.1)) exact_u32
+    (λ n. exact_unless (nat_lt MOST_LOCALS (total + n)) (Limit limit.Locals) (IsTypeOf n) (λ bytes. value_type_at bytes >>= λ t. left_with (a_group n t.0) t.1) (exact_map IsValueType value_type_at (a_group n) exact_value_type)))
+    (λ g bytes h. let t = h.1 in subst (λ (y : LocalGroup). IsGroupBehind total y bytes) t.second.1.1 (ltb-false MOST_LOCALS (total + h.0) t.second.0, record { front = t.front; back = t.back; parts = t.parts; first = t.first; second = t.second.1.2 }))
+    (λ g bytes h. let t = h.1 in (g.count, record { front = t.front; back = t.back; parts = t.parts; first = t.first; second = (le-ltb MOST_LOCALS (total + g.count) h.0, (g.value_type, refl, t.second)) }))
 
-module _ (parameters : ℕ) (some : parameters ≤ 4400) where
+module _ (parameters : ℕ) (some : parameters ≤ MOST_LOCALS) where
   abbrev before_of : List LocalGroup → ℕ
   before_of before = parameters + sum_by (λ (g : LocalGroup). g.count) before
 
@@ -263,7 +264,7 @@ module _ (parameters : ℕ) (some : parameters ≤ 4400) where
   one_group : (before : List LocalGroup) (g : LocalGroup) → before_of (before ++ g ∷ []) ≡ before_of before + g.count
   one_group before g = let one = sum_by-append (λ (x : LocalGroup). x.count) before (g ∷ []) in omega (arith, one)
 
-  groups_to : (gs before : List LocalGroup) (bytes : List ℕ) → before_of before ≤ 4400 → AreItems IsNextGroup before gs bytes → (before_of before + count_locals gs ≤ 4400) × AreItems (λ _. IsGroup) before gs bytes
+  groups_to : (gs before : List LocalGroup) (bytes : List ℕ) → before_of before ≤ MOST_LOCALS → AreItems IsNextGroup before gs bytes → (before_of before + count_locals gs ≤ MOST_LOCALS) × AreItems (λ _. IsGroup) before gs bytes
   groups_to [] before bytes le h = (omega (arith, le), h)
   groups_to (g ∷ gs) before bytes le h =
       let one = one_group before g in
@@ -272,7 +273,7 @@ module _ (parameters : ℕ) (some : parameters ≤ 4400) where
       let sum = others.0 in
       (omega (arith, one, sum), record { front = h.front; back = h.back; parts = h.parts; first = h.first.1; second = others.1 })
 
-  groups_from : (gs before : List LocalGroup) (bytes : List ℕ) → before_of before + count_locals gs ≤ 4400 → AreItems (λ _. IsGroup) before gs bytes → AreItems IsNextGroup before gs bytes
+  groups_from : (gs before : List LocalGroup) (bytes : List ℕ) → before_of before + count_locals gs ≤ MOST_LOCALS → AreItems (λ _. IsGroup) before gs bytes → AreItems IsNextGroup before gs bytes
   groups_from [] before bytes le h = h
   groups_from (g ∷ gs) before bytes le h =
       let one = one_group before g in
@@ -280,7 +281,7 @@ module _ (parameters : ℕ) (some : parameters ≤ 4400) where
       record { front = h.front; back = h.back; parts = h.parts; first = (omega (arith, le), h.first); second = others }
 
   abbrev AreGroups : List LocalGroup → List ℕ → Type 0
-  AreGroups gs bytes = (parameters + count_locals gs ≤ 4400) × IsList (λ _. IsGroup) gs bytes
+  AreGroups gs bytes = (parameters + count_locals gs ≤ MOST_LOCALS) × IsList (λ _. IsGroup) gs bytes
 
   exact_groups : Exact AreGroups (groups_at parameters)
   unfolding groups_at
@@ -293,7 +294,7 @@ module _ (parameters : ℕ) (some : parameters ≤ 4400) where
   a_code locals body = record { locals = locals; body = body }
 
   abbrev IsContent : CodeEntry → List ℕ → Type 0
-  IsContent c bytes = (parameters + count_locals c.locals ≤ 4400) × Then (IsList (λ _. IsGroup) c.locals) (Then (IsCode 0 c.body) IsEnd) bytes
+  IsContent c bytes = (parameters + count_locals c.locals ≤ MOST_LOCALS) × Then (IsList (λ _. IsGroup) c.locals) (Then (IsCode 0 c.body) IsEnd) bytes
 
   abbrev IsBodyOf : List LocalGroup → CodeEntry → List ℕ → Type 0
   IsBodyOf gs c bytes = (is : List Instr) × (a_code gs is ≡ c) × Then (IsCode 0 is) IsEnd bytes
@@ -319,13 +320,13 @@ parameters_same m k = by_type (slice_get m.functions k)
     by_type None = refl
     by_type (Some i) = count_same (slice_get m.types i)
 
-pub exact_code : (m : Module) → ((k : ℕ) → parameters_in (defined_type m k) ≤ 4400) → (before : List CodeEntry) → Exact (IsCodeEntry m (length before)) (code_entry_at m.types m.functions before)
+pub exact_code : (m : Module) → ((k : ℕ) → parameters_in (defined_type m k) ≤ MOST_LOCALS) → (before : List CodeEntry) → Exact (IsCodeEntry m (length before)) (code_entry_at m.types m.functions before)
 unfolding code_entry_at
 exact_code m some before =
     let n = length before in
     let p = parameters_of m.types m.functions n in
     let same = parameters_same m n in
-    let few : p ≤ 4400 = let le = some n in omega (arith, same, le) in
+    let few : p ≤ MOST_LOCALS = let le = some n in omega (arith, same, le) in
     exact_as (λ c. Sized (IsContent p few c)) (IsCodeEntry m n) (code_entry_at m.types m.functions before) (exact_framed (IsContent p few) (content_at p) (exact_content p few))
     (λ c bytes h. let le = h.is.0 in (omega (arith, same, le), record { front = h.front; back = h.back; parts = h.parts; size = h.size; is = h.is.1 }))
     (λ c bytes h. let s = h.1 in let le = h.0 in record { front = s.front; back = s.back; parts = s.parts; size = s.size; is = (omega (arith, same, le), s.is) })

@@ -15,6 +15,7 @@ use Rattle.wasm_read.proofs.Numbers.{chosen, bind_ok}
 use Rattle.wasm_read.proofs.Exact.{Takes, Exact, left_with, exact_u32}
 use Rattle.wasm_read.proofs.ExactTypes.{count_found, count_only}
 use Rattle.wasm_read.proofs.Parts.{none_is, two_parts, exact_as, exact_when, exact_headed, Headed}
+use Rattle.wasm_form.specs.declared.limits.TheConstants.{MOST_TABLE, MOST_PAGES}
 
 -- ---- limits
 
@@ -71,22 +72,22 @@ exact_bounds : (most : ℕ) (fault : Fault) → Exact (IsBounded most) (limits_a
 exact_bounds most fault = record { found = bounds_found most fault; only = λ l front rest h. bounds_only most fault l.min l.max front rest h.0 h.1 }
 
 pub exact_memory : Exact IsMemory memory_at
-exact_memory = exact_bounds 272 (Limit limit.Pages)
+exact_memory = exact_bounds MOST_PAGES (Limit limit.Pages)
 
-table_to : (l : Limits) (bytes : List ℕ) → Headed (λ b l bs. (eqb b 0x70 ≡ true) × IsBounded 16384 l bs) l bytes → IsTable l bytes
+table_to : (l : Limits) (bytes : List ℕ) → Headed (λ b l bs. (eqb b 0x70 ≡ true) × IsBounded MOST_TABLE l bs) l bytes → IsTable l bytes
 table_to l [] h = absurd h
 table_to l (b ∷ bytes) h = (h.1.0, (eqb-true b 0x70 h.0, h.1.1))
 
-table_from : (l : Limits) (bytes : List ℕ) → IsTable l bytes → Headed (λ b l bs. (eqb b 0x70 ≡ true) × IsBounded 16384 l bs) l bytes
+table_from : (l : Limits) (bytes : List ℕ) → IsTable l bytes → Headed (λ b l bs. (eqb b 0x70 ≡ true) × IsBounded MOST_TABLE l bs) l bytes
 table_from l [] h = absurd h.1
 table_from l (b ∷ bytes) h = (ap (λ x. eqb x 0x70) h.1.0, (h.0, h.1.1))
 
 pub exact_table : Exact IsTable table_at
 unfolding table_at
 exact_table =
-    exact_as (Headed (λ b l bs. (eqb b 0x70 ≡ true) × IsBounded 16384 l bs)) IsTable table_at
-    (exact_headed (λ b l bs. (eqb b 0x70 ≡ true) × IsBounded 16384 l bs) table_at (λ b bytes. cond (b == 0x70) (limits_at 16384 (Limit limit.Table) bytes) (Err NotModule)) NotModule refl (λ b rest. refl)
-    (λ b. exact_when (b == 0x70) NotModule (IsBounded 16384) (limits_at 16384 (Limit limit.Table)) (exact_bounds 16384 (Limit limit.Table))))
+    exact_as (Headed (λ b l bs. (eqb b 0x70 ≡ true) × IsBounded MOST_TABLE l bs)) IsTable table_at
+    (exact_headed (λ b l bs. (eqb b 0x70 ≡ true) × IsBounded MOST_TABLE l bs) table_at (λ b bytes. cond (b == 0x70) (limits_at MOST_TABLE (Limit limit.Table) bytes) (Err NotModule)) NotModule refl (λ b rest. refl)
+    (λ b. exact_when (b == 0x70) NotModule (IsBounded MOST_TABLE) (limits_at MOST_TABLE (Limit limit.Table)) (exact_bounds MOST_TABLE (Limit limit.Table))))
     table_to table_from
 
 -- ---- a list of at most one

@@ -17,6 +17,7 @@ use Rattle.wasm_read.specs.Types.{value_type_at, value_type_by, parameters_at, r
 use Rattle.wasm_read.proofs.Leads.{ok_is}
 use Rattle.wasm_read.proofs.Numbers.{chosen, bind_ok}
 use Rattle.wasm_read.proofs.Exact.{Takes, Exact, takes_then, exact_u32, items_found, items_only}
+use Rattle.wasm_form.specs.declared.limits.TheConstants.{MOST_PARAMETERS}
 
 -- a test that let a number pass
 pub guard_ok : {A : Type 0} (b : Bool) (d : Fault) (x y : A) → cond b (Err d) (Ok x) ≡ Ok y → (b ≡ false) × (x ≡ y)
@@ -95,7 +96,7 @@ exact_value_type = record { found = λ bytes x e. value_bytes_found bytes x e; o
 -- ---- types of functions
 
 pub exact_parameters : Exact (λ ps bytes. (length ps ≤ 64) × IsList (λ _. IsValueType) ps bytes) parameters_at
-exact_parameters = exact_counted 64 (Limit limit.Parameters) (λ _. IsValueType) (λ _. value_type_at) (λ _. exact_value_type)
+exact_parameters = exact_counted MOST_PARAMETERS (Limit limit.Parameters) (λ _. IsValueType) (λ _. value_type_at) (λ _. exact_value_type)
 
 abbrev IsResult : Option ValueType → List ℕ → Type 0
 IsResult r bytes = IsList (λ _. IsValueType) (result_list r) bytes

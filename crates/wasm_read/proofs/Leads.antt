@@ -12,6 +12,7 @@ use Rattle.wasm_read.specs.declared.fault.Stop.{Stop}
 use Rattle.wasm_read.specs.Reading.{◌>>=◌, Reader, Gives, number_at, last_of, or_fault, u32_at, list_at, count_at, end_at, zero_at}
 use Rattle.wasm_read.specs.Types.{value_type_by, block_type_at}
 use Rattle.wasm_read.specs.Codes.{of_number, labels_at, br_table_at, call_indirect_at, control_by, variable_by, access_at, constant_by, plain_by}
+use Rattle.wasm_form.specs.declared.limits.TheConstants.{MOST_TARGETS}
 
 -- what is left is shorter than n
 pub record Leads {A : Type 0} (n : ℕ) (r : Result (A × List ℕ) Fault) : Type 0 where
@@ -91,8 +92,8 @@ of_number_leads make rest = number_then _ rest _ (λ x lt. leads_ok _ _ x.1 (ome
 labels_leads : (rest : List ℕ) → Leads (suc (length rest)) (labels_at rest)
 unfolding labels_at
 labels_leads rest =
-    leads_then (length rest) _ (count_at 4096 (Limit limit.Targets) rest) _
-    (number_then (length rest) rest _ (λ x lt. leads_if _ (nat_lt 4096 x.0) _ _ (leads_err ℕ _ _) (leads_ok _ _ x.1 lt)))
+    leads_then (length rest) _ (count_at MOST_TARGETS (Limit limit.Targets) rest) _
+    (number_then (length rest) rest _ (λ x lt. leads_if _ (nat_lt MOST_TARGETS x.0) _ _ (leads_err ℕ _ _) (leads_ok _ _ x.1 lt)))
     (λ x lt. leads_more (suc (length x.1)) _ _ (omega arith) (list_leads (λ _. u32_at) (λ before bytes. number_leads false 32 bytes) x.0 [] x.1))
 
 br_table_leads : (rest : List ℕ) → Leads (suc (length rest)) (br_table_at rest)

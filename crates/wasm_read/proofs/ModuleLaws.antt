@@ -6,6 +6,7 @@ use Rattle.std.proofs.lemmas.List.{take-append-drop}
 use Rattle.std.proofs.lemmas.Slice.Eq.{bytes_eq-Decides}
 use Rattle.wasm_form.specs.declared.types.FunctionType.{FunctionType}
 use Rattle.wasm_form.specs.declared.types.Limits.{Limits}
+use Rattle.wasm_form.specs.declared.limits.TheConstants.{MOST_TYPES, MOST_FUNCTIONS, MOST_GLOBALS, MOST_EXPORTS, MOST_LOCALS}
 use Rattle.wasm_form.specs.declared.module.Import.{Import}
 use Rattle.wasm_form.specs.declared.module.GlobalEntry.{GlobalEntry}
 use Rattle.wasm_form.specs.declared.module.Export.{Export}
@@ -57,8 +58,8 @@ record FirstRead (bytes : List ℕ) (x : Module × List ℕ) : Type 0 where
   functions : Takes (IsSection 3 (λ _. IsIndex (length x.0.types)) x.0.functions) two three
   tables : Takes (IsSection 4 (λ _. IsTable) x.0.tables) three four
   memories : Takes (IsSection 5 (λ _. IsMemory) x.0.memories) four x.1
-  few_types : length x.0.types ≤ 10000
-  few_functions : length x.0.functions ≤ 10000
+  few_types : length x.0.types ≤ MOST_TYPES
+  few_functions : length x.0.functions ≤ MOST_FUNCTIONS
   few_tables : length x.0.tables ≤ 1
   few_memories : length x.0.memories ≤ 1
 
@@ -74,9 +75,9 @@ first_found bytes x e =
     let f = bind_ok (section_at 3 (functions_at (length t.0.0)) i.0.1) (λ fs. section_at 4 (at_most_one table_at) fs.1 >>= λ tb. section_at 5 (at_most_one memory_at) tb.1 >>= λ me. left_with (first_of t.0.0 i.0.0 fs.0 tb.0 me.0) me.1) x i.2 in
     let b = bind_ok (section_at 4 (at_most_one table_at) f.0.1) (λ tb. section_at 5 (at_most_one memory_at) tb.1 >>= λ me. left_with (first_of t.0.0 i.0.0 f.0.0 tb.0 me.0) me.1) x f.2 in
     let m = bind_ok (section_at 5 (at_most_one memory_at) b.0.1) (λ me. left_with (first_of t.0.0 i.0.0 f.0.0 b.0.0 me.0) me.1) x b.2 in
-    let ts = section_found 1 (AtMost 10000) (λ _. IsType) types_at types_exact bytes t.0 (omega arith) t.1 in
+    let ts = section_found 1 (AtMost MOST_TYPES) (λ _. IsType) types_at types_exact bytes t.0 (omega arith) t.1 in
     let is = section_found 2 Any (IsImport t.0.0) (imports_at t.0.0) (imports_exact t.0.0) t.0.1 i.0 tt i.1 in
-    let fs = section_found 3 (AtMost 10000) (λ _. IsIndex (length t.0.0)) (functions_at (length t.0.0)) (functions_exact (length t.0.0)) i.0.1 f.0 (omega arith) f.1 in
+    let fs = section_found 3 (AtMost MOST_FUNCTIONS) (λ _. IsIndex (length t.0.0)) (functions_at (length t.0.0)) (functions_exact (length t.0.0)) i.0.1 f.0 (omega arith) f.1 in
     let bs = section_found 4 (AtMost 1) (λ _. IsTable) (at_most_one table_at) (exact_at_most_one IsTable table_at exact_table) f.0.1 b.0 (omega arith) b.1 in
     let ms = section_found 5 (AtMost 1) (λ _. IsMemory) (at_most_one memory_at) (exact_at_most_one IsMemory memory_at exact_memory) b.0.1 m.0 (omega arith) m.1 in
     subst (FirstRead bytes) (ok_is (first_of t.0.0 i.0.0 f.0.0 b.0.0 m.0.0, m.0.1) x m.2)
@@ -99,11 +100,11 @@ record LastRead (first : Module) (bytes : List ℕ) (m : Module) : Type 0 where
   codes : Takes (IsSection 10 (Code m) m.codes) three four
   segments : Takes (IsSection 11 (λ _. IsSegment m) m.segments) four five
   end : AreCustom five
-  few_globals : length m.globals ≤ 100
-  few_exports : length m.exports ≤ 10000
+  few_globals : length m.globals ≤ MOST_GLOBALS
+  few_exports : length m.exports ≤ MOST_EXPORTS
   all_codes : length m.codes ≡ length m.functions
 
-last_found : (first : Module) (bytes : List ℕ) (m : Module) → ((k : ℕ) → parameters_in (defined_type first k) ≤ 4400) → length first.tables ≤ 1 → length first.memories ≤ 1 → last_at first bytes ≡ Ok m → LastRead first bytes m
+last_found : (first : Module) (bytes : List ℕ) (m : Module) → ((k : ℕ) → parameters_in (defined_type first k) ≤ MOST_LOCALS) → length first.tables ≤ 1 → length first.memories ≤ 1 → last_at first bytes ≡ Ok m → LastRead first bytes m
 unfolding last_at
 last_found first bytes m some few_tables few_memories h =
     let n = function_count first in
@@ -114,8 +115,8 @@ last_found first bytes m some few_tables few_memories h =
     let s = bind_ok (section_at 11 (segments_at first.memories) c.0.1) (λ ss. finish_at ss.1 >>= λ rest. done (with_last first g.0.0 e.0.0 l.0.0 c.0.0 ss.0)) m c.2 in
     let r = bind_ok (finish_at s.0.1) (λ rest. done (with_last first g.0.0 e.0.0 l.0.0 c.0.0 s.0.0)) m s.2 in
     let whole : Module = with_last first g.0.0 e.0.0 l.0.0 c.0.0 s.0.0 in
-    let gs = section_found 6 (AtMost 100) (λ _. IsGlobal) globals_at globals_exact bytes g.0 (omega arith) g.1 in
-    let es = section_found 7 (AtMost 10000) (IsExport whole) (exports_at (counts_of first g.0.0)) (exports_exact first whole refl refl refl refl) g.0.1 e.0 (omega arith) e.1 in
+    let gs = section_found 6 (AtMost MOST_GLOBALS) (λ _. IsGlobal) globals_at globals_exact bytes g.0 (omega arith) g.1 in
+    let es = section_found 7 (AtMost MOST_EXPORTS) (IsExport whole) (exports_at (counts_of first g.0.0)) (exports_exact first whole refl refl refl refl) g.0.1 e.0 (omega arith) e.1 in
     let els = section_found 9 Any (λ _. IsElement whole) (elements_at first.tables n) (elements_exact whole few_tables) e.0.1 l.0 tt l.1 in
     let cs = codes_found whole some l.0.1 c.0 c.1 in
     let ss = section_found 11 Any (λ _. IsSegment whole) (segments_at first.memories) (segments_exact whole few_memories) c.0.1 s.0 tt s.1 in
@@ -236,9 +237,9 @@ module _ (m : Module) (counts : CountsAreWithin m) where
   first_only : (bytes : List ℕ) → AreSections m bytes → FirstReads bytes
   unfolding first_at
   first_only bytes h =
-      let t = reads_section 0 1 1 (omega arith) (omega arith) (λ _. IsType) From2 strips_2 (AtMost 10000) types_at types_exact m.types bytes counts.types h in
+      let t = reads_section 0 1 1 (omega arith) (omega arith) (λ _. IsType) From2 strips_2 (AtMost MOST_TYPES) types_at types_exact m.types bytes counts.types h in
       let i = reads_section 1 2 2 (omega arith) (omega arith) (IsImport m.types) From3 strips_3 Any (imports_at m.types) (imports_exact m.types) m.imports t.rest tt t.left in
-      let f = reads_section 2 3 3 (omega arith) (omega arith) (λ _. IsIndex (length m.types)) From4 strips_4 (AtMost 10000) (functions_at (length m.types)) (functions_exact (length m.types)) m.functions i.rest counts.functions i.left in
+      let f = reads_section 2 3 3 (omega arith) (omega arith) (λ _. IsIndex (length m.types)) From4 strips_4 (AtMost MOST_FUNCTIONS) (functions_at (length m.types)) (functions_exact (length m.types)) m.functions i.rest counts.functions i.left in
       let b = reads_section 3 4 4 (omega arith) (omega arith) (λ _. IsTable) From5 strips_5 (AtMost 1) (at_most_one table_at) (exact_at_most_one IsTable table_at exact_table) m.tables f.rest counts.tables f.left in
       let e = reads_section 4 5 5 (omega arith) (omega arith) (λ _. IsMemory) From6 strips_6 (AtMost 1) (at_most_one memory_at) (exact_at_most_one IsMemory memory_at exact_memory) m.memories b.rest counts.memories b.left in
       record { rest = e.rest; read = rw (t.read, i.read, f.read, b.read, e.read) refl; left = e.left }
@@ -250,12 +251,12 @@ module _ (m : Module) (counts : CountsAreWithin m) where
       let not_start = ne_eqb b 8 (λ e. omega (arith, h, e)) in
       rw (not_codes, not_start, ← none) refl
 
-  last_only : (some : (k : ℕ) → parameters_in (defined_type m k) ≤ 4400) (bytes : List ℕ) → From6 bytes → last_at first_part bytes ≡ Ok m
+  last_only : (some : (k : ℕ) → parameters_in (defined_type m k) ≤ MOST_LOCALS) (bytes : List ℕ) → From6 bytes → last_at first_part bytes ≡ Ok m
   unfolding last_at codes_section_at
   last_only some bytes h =
       let n = function_count m in
-      let g = reads_section 5 6 6 (omega arith) (omega arith) (λ _. IsGlobal) From7 strips_7 (AtMost 100) globals_at globals_exact m.globals bytes counts.globals h in
-      let e = reads_section 6 7 8 (omega arith) (omega arith) (IsExport m) From9 strips_9 (AtMost 10000) (exports_at (counts_of first_part m.globals)) (exports_exact first_part m refl refl refl refl) m.exports g.rest counts.exports g.left in
+      let g = reads_section 5 6 6 (omega arith) (omega arith) (λ _. IsGlobal) From7 strips_7 (AtMost MOST_GLOBALS) globals_at globals_exact m.globals bytes counts.globals h in
+      let e = reads_section 6 7 8 (omega arith) (omega arith) (IsExport m) From9 strips_9 (AtMost MOST_EXPORTS) (exports_at (counts_of first_part m.globals)) (exports_exact first_part m refl refl refl refl) m.exports g.rest counts.exports g.left in
       let l = reads_section 8 9 9 (omega arith) (omega arith) (λ _. IsElement m) From10 strips_10 Any (elements_at m.tables n) (elements_exact m counts.tables) m.elements e.rest tt e.left in
       let c = reads_any 9 10 10 (omega arith) (omega arith) (Code m) From11 strips_11 (AsMany m) (codes_at m.types m.functions) (codes_exact m some) (codes_by m.types m.functions) (λ rest. refl) no_codes m.codes l.rest counts.codes l.left in
       let s = reads_section 10 11 11 (omega arith) (omega arith) (λ _. IsSegment m) End strips_end Any (segments_at m.memories) (segments_exact m counts.memories) m.segments c.rest tt c.left in

@@ -12,6 +12,7 @@ use Rattle.wasm_read.specs.declared.fault.Fault.{Fault}
 use Rattle.wasm_read.specs.declared.fault.Fault.TheVariants.{NotModule, OutsideProfile, Limit}
 use Rattle.wasm_read.specs.Reading.{◌>>=◌, Reader, u32_at, number_at, or_fault, counted, end_at, zero_at}
 use Rattle.wasm_read.specs.Types.{block_type_at}
+use Rattle.wasm_form.specs.declared.limits.TheConstants.{MOST_LABELS, MOST_TARGETS}
 
 -- ---- instructions that hold no others
 
@@ -20,7 +21,7 @@ abbrev pub of_number : (ℕ → Instr) → Reader Instr
 of_number make rest = u32_at rest >>= λ n. Ok (make n.0, n.1)
 
 unfoldable pub labels_at : Reader (List ℕ)
-labels_at = counted 4096 (Limit limit.Targets) (λ _. u32_at)
+labels_at = counted MOST_TARGETS (Limit limit.Targets) (λ _. u32_at)
 
 unfoldable pub br_table_at : Reader Instr
 br_table_at rest = labels_at rest >>= λ ls. u32_at ls.1 >>= λ l. Ok (roll-Instr (F.BrTable ls.0 l.0), l.1)
@@ -90,7 +91,7 @@ Coded = ℕ → Reader (List Instr)
 
 -- within 1,024 labels
 abbrev pub with_label : {A : Type 0} → ℕ → Result (A × List ℕ) Fault → Result (A × List ℕ) Fault
-with_label labels read = if labels == 1024 then Err (Limit limit.Labels) else read
+with_label labels read = if labels == MOST_LABELS then Err (Limit limit.Labels) else read
 
 -- a block or a loop behind its opcode, where code reads the list in it
 unfoldable pub nested_with : Coded → ℕ → Reader (Option ValueType × List Instr)

@@ -8,6 +8,7 @@ use Rattle.wasm_form.specs.declared.types.Value.{Value}
 use Rattle.wasm_form.specs.declared.types.Value.TheVariants as value
 use Rattle.wasm_form.specs.declared.types.FunctionType.{FunctionType}
 use Rattle.wasm_form.specs.declared.types.Limits.{Limits}
+use Rattle.wasm_form.specs.declared.limits.TheConstants.{MOST_FUNCTIONS, MOST_GLOBALS, MOST_EXPORTS, MOST_LOCALS, PAGE}
 use Rattle.wasm_form.specs.declared.module.HostCall.{HostCall}
 use Rattle.wasm_form.specs.declared.module.HostCall.TheVariants as host
 use Rattle.wasm_form.specs.declared.module.Import.{Import}
@@ -111,7 +112,7 @@ imports_at types bytes = u32_at bytes >>= λ n. list_at (import_at types) [] n.0
 -- ---- functions, globals and exports
 
 unfoldable pub functions_at : ℕ → Reader (List ℕ)
-functions_at types = counted 10000 (Limit limit.Functions) (λ _. index_at types)
+functions_at types = counted MOST_FUNCTIONS (Limit limit.Functions) (λ _. index_at types)
 
 -- what stands in an initial or offset expression in place of a constant or its end
 abbrev pub strange_of : ℕ → Fault
@@ -146,7 +147,7 @@ global_at bytes = value_type_at bytes >>= λ t. mutable_at t.1 >>= λ m. initial
     Ok (record { value_type = t.0; is_mutable = m.0; initial = v.0 }, v.1)
 
 unfoldable pub globals_at : Reader (List GlobalEntry)
-globals_at = counted 100 (Limit limit.Globals) (λ _. global_at)
+globals_at = counted MOST_GLOBALS (Limit limit.Globals) (λ _. global_at)
 
 abbrev pub kind_at : Reader ExportKind
 kind_at [] = Err NotModule
@@ -175,7 +176,7 @@ export_at counts before bytes = name_at bytes >>= λ name.
     if list_any (λ e. bytes_eq e.name name.0) before then Err NotModule else exported_at counts name.0 name.1
 
 unfoldable pub exports_at : Counts → Reader (List Export)
-exports_at counts = counted 10000 (Limit limit.Exports) (export_at counts)
+exports_at counts = counted MOST_EXPORTS (Limit limit.Exports) (export_at counts)
 
 -- ---- segments
 
@@ -202,7 +203,7 @@ bytes_at size bytes = if nat_lt (length bytes) size then Err NotModule else Ok (
 
 unfoldable pub segment_at : List Limits → Reader DataSegment
 segment_at memories bytes = index_at (length memories) bytes >>= λ m. offset_at m.1 >>= λ o.
-    span_at (least_of memories * 65536) o.0 o.1 >>= λ n. bytes_at n.0 n.1 >>= λ b.
+    span_at (least_of memories * PAGE) o.0 o.1 >>= λ n. bytes_at n.0 n.1 >>= λ b.
     Ok (record { offset = o.0; bytes = b.0 }, b.1)
 
 unfoldable pub segments_at : List Limits → Reader (List DataSegment)
@@ -213,7 +214,7 @@ segments_at memories bytes = u32_at bytes >>= λ n. list_at (λ _. segment_at me
 -- a group of locals behind so many locals, parameters counted
 unfoldable pub group_at : ℕ → Reader LocalGroup
 group_at total bytes = u32_at bytes >>= λ n.
-    if nat_lt 4400 (total + n.0) then Err (Limit limit.Locals)
+    if nat_lt MOST_LOCALS (total + n.0) then Err (Limit limit.Locals)
     else (value_type_at n.1 >>= λ t. Ok (record { count = n.0; value_type = t.0 }, t.1))
 
 -- a group of locals of a function with so many parameters, behind other groups

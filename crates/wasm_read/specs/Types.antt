@@ -10,6 +10,7 @@ use Rattle.wasm_form.specs.Tables.{is_between}
 use Rattle.wasm_read.specs.declared.fault.Fault.{Fault}
 use Rattle.wasm_read.specs.declared.fault.Fault.TheVariants.{NotModule, OutsideProfile, Limit}
 use Rattle.wasm_read.specs.Reading.{◌>>=◌, Reader, u32_at, count_at, counted}
+use Rattle.wasm_form.specs.declared.limits.TheConstants.{MOST_TYPES, MOST_PARAMETERS, MOST_TABLE, MOST_PAGES}
 
 abbrev pub value_type_by : ℕ → Reader ValueType
 value_type_by b rest =
@@ -26,7 +27,7 @@ block_type_at [] = Err NotModule
 block_type_at (b ∷ rest) = if b == 0x40 then Ok (None, rest) else (value_type_by b rest >>= λ t. Ok (Some t.0, t.1))
 
 abbrev pub parameters_at : Reader (List ValueType)
-parameters_at = counted 64 (Limit limit.Parameters) (λ _. value_type_at)
+parameters_at = counted MOST_PARAMETERS (Limit limit.Parameters) (λ _. value_type_at)
 
 -- a list of at most one
 unfoldable pub result_at : Reader (Option ValueType)
@@ -41,7 +42,7 @@ type_at (b ∷ rest) =
     else Err NotModule
 
 unfoldable pub types_at : Reader (List FunctionType)
-types_at = counted 10000 (Limit limit.Types) (λ _. type_at)
+types_at = counted MOST_TYPES (Limit limit.Types) (λ _. type_at)
 
 abbrev pub max_at : ℕ → Reader Limits
 max_at min rest = u32_at rest >>= λ max.
@@ -66,7 +67,7 @@ at_most_one one bytes = u32_at bytes >>= λ n.
 
 unfoldable pub table_at : Reader Limits
 table_at [] = Err NotModule
-table_at (b ∷ rest) = if b == 0x70 then limits_at 16384 (Limit limit.Table) rest else Err NotModule
+table_at (b ∷ rest) = if b == 0x70 then limits_at MOST_TABLE (Limit limit.Table) rest else Err NotModule
 
 abbrev pub memory_at : Reader Limits
-memory_at = limits_at 272 (Limit limit.Pages)
+memory_at = limits_at MOST_PAGES (Limit limit.Pages)

@@ -8,7 +8,7 @@ use crate::fault::{Fault, Stop};
 use crate::input::end_of;
 use crate::plain::plain;
 use crate::types::block_type_of;
-use sqlite_items::Items;
+use sqlite_items::{Boxed, Items};
 use std::alloc::Global;
 use wasm_form::limits::{MOST_LABELS, ModuleLimit};
 use wasm_form::{BlockType, Instr};
@@ -17,7 +17,7 @@ use wasm_form::{BlockType, Instr};
 #[cycle(code)]
 #[tactic(auto, unfolding(crate::specs::Codes::instr_with))]
 fn instr_of(alloc: Global, bytes: &[u8], labels: u32) -> Result<(Instr, &[u8]), Stop>
-    requires { labels ≤ 1024 }
+    requires { labels ≤ MOST_LABELS }
     ensures gives { Gives (λ x. (x.0, x.1.now)) result (instr_with code_all labels bytes.now) }
     ensures shorter { IfOk result (λ x. length x.1.now < length bytes.now) }
 {
@@ -33,6 +33,8 @@ fn instr_of(alloc: Global, bytes: &[u8], labels: u32) -> Result<(Instr, &[u8]), 
         }
         [0x04, rest @ ..] => {
             let ((handed, first, second), rest) = sides_of(alloc, rest, labels, bytes)?;
+            let first = Boxed::new(alloc, first)?;
+            let second = Boxed::new(alloc, second)?;
             Ok((Instr::If(handed, first, second), rest))
         }
         [opcode, rest @ ..] => plain_of(alloc, *opcode, rest, bytes),
@@ -48,7 +50,7 @@ fn nested_of<'a>(
     labels: u32,
     start: &[u8],
 ) -> Result<((BlockType, Items<Instr>), &'a [u8]), Stop>
-    requires { labels ≤ 1024 }
+    requires { labels ≤ MOST_LABELS }
     ensures gives { Gives (λ x. (x.0, x.1.now)) result (nested_with code_all labels bytes.now) }
     ensures shorter { IfOk result (λ x. length x.1.now < length bytes.now) }
 {
@@ -70,7 +72,7 @@ fn sides_of<'a>(
     labels: u32,
     start: &[u8],
 ) -> Result<((BlockType, Items<Instr>, Items<Instr>), &'a [u8]), Stop>
-    requires { labels ≤ 1024 }
+    requires { labels ≤ MOST_LABELS }
     ensures gives { Gives (λ x. (x.0, x.1.now)) result (sides_with code_all labels bytes.now) }
     ensures shorter { IfOk result (λ x. length x.1.now < length bytes.now) }
 {
@@ -100,7 +102,7 @@ fn plain_of<'a>(
 #[cycle(code)]
 #[tactic(auto, unfolding(crate::specs::Codes::second_with))]
 fn second_of(alloc: Global, bytes: &[u8], labels: u32) -> Result<(Items<Instr>, &[u8]), Stop>
-    requires { labels ≤ 1024 }
+    requires { labels ≤ MOST_LABELS }
     ensures gives { Gives (λ x. (x.0, x.1.now)) result (second_with code_all labels bytes.now) }
     ensures shorter { IfOk result (λ x. length x.1.now < length bytes.now) }
 {
@@ -120,7 +122,7 @@ fn second_of(alloc: Global, bytes: &[u8], labels: u32) -> Result<(Items<Instr>, 
 /// The instructions up to an end or an else, which is left.
 #[cycle(code)]
 fn code_of(alloc: Global, bytes: &[u8], labels: u32) -> Result<(Items<Instr>, &[u8]), Stop>
-    requires { labels ≤ 1024 }
+    requires { labels ≤ MOST_LABELS }
     ensures gives { Gives (λ x. (x.0, x.1.now)) result (code_all labels bytes.now) }
     ensures within { IfOk result (λ x. length x.1.now ≤ length bytes.now) }
 {

@@ -9,7 +9,7 @@ use crate::input::zero_of;
 use crate::number::{i32_of, i64_of, u32_of};
 use crate::opcodes::{is_floating, load_or_store, numeric};
 use crate::types::count_of;
-use sqlite_items::Items;
+use sqlite_items::{Boxed, Items};
 use std::alloc::Global;
 use wasm_form::limits::{MOST_TARGETS, ModuleLimit, Outside};
 use wasm_form::{Instr, MemArg};
@@ -86,6 +86,7 @@ fn br_table_of(alloc: Global, bytes: &[u8]) -> Result<(Instr, &[u8]), Stop>
 {
     let (labels, rest) = labels_of(alloc, bytes)?;
     let (default, rest) = u32_of(rest)?;
+    let labels = Boxed::new(alloc, labels)?;
     Ok((Instr::BrTable(labels, default), rest))
 }
 

@@ -146,7 +146,7 @@ pub(crate) fn segments_of<'a>(
 
 /// Whether so many more locals pass the limit.
 fn is_past(total: usize, count: u32) -> bool
-    ensures { result ≡ nat_lt 4400 (total + count) }
+    ensures { result ≡ nat_lt MOST_LOCALS (total + count) }
 {
     let most = MOST_LOCALS as usize;
     if total > most {
@@ -159,7 +159,7 @@ fn is_past(total: usize, count: u32) -> bool
 #[tactic(auto, unfolding(crate::specs::Entries::group_at))]
 fn group_of(total: usize, bytes: &[u8]) -> Result<(LocalGroup, &[u8]), Stop>
     ensures gives { Gives (λ x. (x.0, x.1.now)) result (group_at total bytes.now) }
-    ensures few { IfOk result (λ x. total + x.0.count ≤ 4400) }
+    ensures few { IfOk result (λ x. total + x.0.count ≤ MOST_LOCALS) }
 {
     let (count, rest) = u32_of(bytes)?;
     if is_past(total, count) {

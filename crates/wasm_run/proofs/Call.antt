@@ -6,6 +6,7 @@ use Rattle.std.proofs.Math.Seq.{take-append_seam, drop-append_seam}
 use Rattle.std.proofs.lemmas.Bool.{le-ltb, lt-ltb}
 use Rattle.wasm_form.specs.declared.types.Value.{Value}
 use Rattle.wasm_form.specs.declared.types.FunctionType.{FunctionType}
+use Rattle.wasm_form.specs.declared.limits.TheConstants.{MOST_FRAMES}
 use Rattle.wasm_form.specs.declared.module.CodeEntry.{CodeEntry}
 use Rattle.wasm_form.specs.declared.instr.Instr.{Instr}
 use Rattle.wasm_run.specs.declared.state.Layer.{Layer}
@@ -19,21 +20,21 @@ module _ (s : Inside) (t : FunctionType) (f : CodeEntry) (sound : IsSound s) (ye
   count : frames (view_of s).layers ≡ s.depth
   count = frames_are (reverse s.layers.items) (take s.base s.values.items) (take s.locals_base s.locals.items) s.locals_base s.depth sound.locals_fall
 
-  pub too_deep : 1001 ≤ s.depth → called t f (view_of s) ≡ Traps 3 0
+  pub too_deep : MOST_FRAMES ≤ s.depth → called t f (view_of s) ≡ Traps 3 0
   unfolding called
   too_deep le =
       let n = count in
-      let few : ltb (frames (view_of s).layers) 1001 ≡ false = le-ltb _ _ (omega arith) in
+      let few : ltb (frames (view_of s).layers) MOST_FRAMES ≡ false = le-ltb _ _ (omega arith) in
       rw (yes, few) refl
 
-  pub enters_function : (start lb : ℕ) (body : List Instr) (x : Layer) (vals locs : List Value) (lays : List Layer) → lb ≡ length s.locals.items → body ≡ f.body → s.depth < 1001 → s.base + length t.parameters ≤ length s.values.items → start ≡ length s.values.items - length t.parameters
+  pub enters_function : (start lb : ℕ) (body : List Instr) (x : Layer) (vals locs : List Value) (lays : List Layer) → lb ≡ length s.locals.items → body ≡ f.body → s.depth < MOST_FRAMES → s.base + length t.parameters ≤ length s.values.items → start ≡ length s.values.items - length t.parameters
       → x ≡ record { after = s.code; target = s.code; base = s.base; result = t.result; is_frame = true; locals = s.locals_base; depth = s.depth }
       → vals ≡ take start s.values.items → lays ≡ s.layers.items ++ x ∷ [] → locs ≡ s.locals.items ++ drop start s.values.items ++ zeros f.locals
       → called t f (view_of s) ≡ Goes (record { code = body; values = reverse (drop start vals); layers = layers_of (reverse lays) (take start vals) (take lb locs); locals = drop lb locs; globals = s.globals.items; table = s.table.items; memory = s.memory.items; input = s.input.now })
   unfolding called
   enters_function start lb body x vals locs lays lbe be lt enough st xe ve le lo =
       let n = count in
-      let few : ltb (frames (view_of s).layers) 1001 ≡ true = lt-ltb _ _ (omega arith) in
+      let few : ltb (frames (view_of s).layers) MOST_FRAMES ≡ true = lt-ltb _ _ (omega arith) in
       let vs = s.values.items in
       let ls = s.locals.items in
       let zs : List Value = zeros f.locals in

@@ -8,6 +8,7 @@ use Rattle.wasm_run.specs.declared.state.State.TheInside.{Inside}
 use Rattle.wasm_form.specs.Steps as steps
 use Rattle.wasm_form.specs.Steps.{target_of, branch, leave, carried, result_of, jump_with, Stuck, ◌>>-◌, returned, Config, Goes, Ends, frames}
 use Rattle.wasm_run.specs.Views.{listed, view_of, IsSound, layer_of, layers_of, locals_below, Falls, LocalsFall, Restores, IsFound, IsNotFound}
+use Rattle.wasm_form.specs.declared.limits.TheConstants.{MOST_LOCALS}
 
 -- so far the walk has passed labels alone
 pub record IsHere (xs : List Layer) (base : ℕ) (w : Option ℕ) (at start : ℕ) (left : Option ℕ) : Type 0 where
@@ -155,7 +156,7 @@ top_falls s x lays sound e label =
 pub falls_label : (x : Layer) (ys : List Layer) (m d : ℕ) → x.is_frame ≡ false → LocalsFall (x ∷ ys) m d → LocalsFall ys m d
 falls_label x ys m d label g = let k = rw label at g.0 in rw (k.0, k.1) g.1
 
-pub falls_frame : (x : Layer) (ys : List Layer) (m d : ℕ) → x.is_frame ≡ true → LocalsFall (x ∷ ys) m d → (x.locals ≤ m) × (d ≡ x.depth + 1) × (m ≤ 4400 * x.depth)
+pub falls_frame : (x : Layer) (ys : List Layer) (m d : ℕ) → x.is_frame ≡ true → LocalsFall (x ∷ ys) m d → (x.locals ≤ m) × (d ≡ x.depth + 1) × (m ≤ MOST_LOCALS * x.depth)
 falls_frame x ys m d frame g = rw frame at g.0
 
 -- the frames of the layers are as many as the state says

@@ -7,6 +7,7 @@ use Rattle.std.proofs.lemmas.Bool.{ltb-true, le-ltb}
 use Rattle.wasm_form.specs.declared.instr.Instr.{Instr, out-Instr}
 use Rattle.wasm_form.specs.declared.instr.Instr.TheOpen.{Instr-F}
 use Rattle.wasm_form.specs.declared.instr.Instr.TheOpen as F
+use Rattle.wasm_form.specs.declared.limits.TheConstants.{MOST_LOCALS, MOST_LABELS, MOST_FRAMES, MOST_OPERANDS}
 use Rattle.wasm_form.specs.declared.module.Module.{Module}
 use Rattle.wasm_form.specs.declared.module.Import.{Import}
 use Rattle.wasm_form.specs.declared.module.CodeEntry.{CodeEntry}
@@ -35,7 +36,7 @@ few_layers [] b = omega arith
 few_layers (Label below result target after ∷ ls) b = omega (arith, few_layers ls b.2)
 few_layers (Frame below result locals after ∷ ls) b = omega (arith, few_layers ls b.1, b.0)
 
-pub has_room : (c : Config) → HasRoom c → length c.layers < 1027050
+pub has_room : (c : Config) → HasRoom c → length c.layers < (MOST_FRAMES + 1) * (MOST_LABELS + 1)
 has_room c h = omega (arith, few_layers c.layers h.below, h.here, h.few)
 
 pub Keeps : Next → Type 0
@@ -52,9 +53,9 @@ record Same (c d : Config) : Type 0 where
 
 room_same : (c d : Config) → HasRoom c → Same c d → HasRoom d
 room_same c d h s = record {
-  here = subst (λ x. nest x + labels d.layers ≤ 1024) (sym s.code) (subst (λ x. nest c.code + labels x ≤ 1024) (sym s.layers) h.here);
+  here = subst (λ x. nest x + labels d.layers ≤ MOST_LABELS) (sym s.code) (subst (λ x. nest c.code + labels x ≤ MOST_LABELS) (sym s.layers) h.here);
   below = subst Below (sym s.layers) h.below;
-  few = subst (λ x. frames x ≤ 1001) (sym s.layers) h.few;
+  few = subst (λ x. frames x ≤ MOST_FRAMES) (sym s.layers) h.few;
 }
 
 nothing_kept : Keeps Stuck
@@ -67,7 +68,7 @@ keeps_if false x y k l = l
 
 keeps_pushed : (v : Value) (c : Config) → HasRoom c → Keeps (pushed v c)
 unfolding pushed Keeps
-keeps_pushed v c h = keeps_if (ltb (operands c) 1048576) _ _ (room_same c _ h (record { code = refl; layers = refl })) tt
+keeps_pushed v c h = keeps_if (ltb (operands c) MOST_OPERANDS) _ _ (room_same c _ h (record { code = refl; layers = refl })) tt
 
 keeps_given : (v : Value) (c : Config) → HasRoom c → Keeps (given v c)
 unfolding given Keeps
@@ -121,12 +122,12 @@ target_room (Some zero) (Frame below result locals after ∷ ls) t b e = subst (
 target_room (Some (suc k)) (Label below result target after ∷ ls) t b e = target_room (Some k) ls t b.2 e
 target_room (Some (suc k)) (Frame below result locals after ∷ ls) t b e = absurd cc
 
-keeps_returned : (vs locals : List Value) (after : List Instr) (ls : List Layer) (c : Config) → nest after + labels ls ≤ 1024 → Below ls → frames ls ≤ 1001 → Keeps (returned vs locals after ls c)
+keeps_returned : (vs locals : List Value) (after : List Instr) (ls : List Layer) (c : Config) → nest after + labels ls ≤ MOST_LABELS → Below ls → frames ls ≤ MOST_FRAMES → Keeps (returned vs locals after ls c)
 unfolding Keeps
 keeps_returned vs locals after [] c h b f = tt
 keeps_returned vs locals after (l ∷ ls) c h b f = record { here = h; below = b; few = f }
 
-keeps_jump : (t : Layer × List Layer) (c : Config) → Below (t.0 ∷ t.1) → frames t.1 ≤ 1001 → (o : Option (List Value)) → Keeps (o >>- λ vs. jump_with vs t c)
+keeps_jump : (t : Layer × List Layer) (c : Config) → Below (t.0 ∷ t.1) → frames t.1 ≤ MOST_FRAMES → (o : Option (List Value)) → Keeps (o >>- λ vs. jump_with vs t c)
 unfolding Keeps
 keeps_jump t c b f None = tt
 keeps_jump (Label below result target after, ls) c b f (Some vs) = record { here = b.0; below = b.2; few = f }
@@ -208,7 +209,7 @@ keeps_leave c h = go c.layers refl
     go [] e = tt
     go (Label below result target after ∷ ls) e =
         let b : Below (Label below result target after ∷ ls) = subst Below e h.below in
-        let f : frames (Label below result target after ∷ ls) ≤ 1001 = subst (λ x. frames x ≤ 1001) e h.few in
+        let f : frames (Label below result target after ∷ ls) ≤ MOST_FRAMES = subst (λ x. frames x ≤ MOST_FRAMES) e h.few in
         record { here = b.1; below = b.2; few = f }
     go (Frame below result locals after ∷ ls) e = keeps_if (exactly result c.values) (branch None c) Stuck (keeps_branch None c h) tt
 
@@ -220,8 +221,8 @@ keeps_called : (t : FunctionType) (f : CodeEntry) (c : Config) → FunctionIsWit
 unfolding called Keeps
 keeps_called t f c n h =
     keeps_if (typed (reverse (take (length t.parameters) c.values)) t.parameters) _ Stuck
-    (keeps_test (ltb (frames c.layers) 1001) (Goes (framed (reverse (take (length t.parameters) c.values)) t f c)) (Traps 3 0)
-    (λ lt. record { here = omega (arith, n.labels); below = (h.here, h.below); few = omega (arith, ltb-true (frames c.layers) 1001 lt) }) tt) tt
+    (keeps_test (ltb (frames c.layers) MOST_FRAMES) (Goes (framed (reverse (take (length t.parameters) c.values)) t f c)) (Traps 3 0)
+    (λ lt. record { here = omega (arith, n.labels); below = (h.here, h.below); few = omega (arith, ltb-true (frames c.layers) MOST_FRAMES lt) }) tt) tt
 
 keeps_read : (zs : List ℤ) (c : Config) → HasRoom c → Keeps (read_in zs c)
 keeps_read [] c h = keeps_pushed (I64 0) c h
@@ -351,21 +352,21 @@ KeepsIf : Option Next → Type 0
 KeepsIf None = Unit {0}
 KeepsIf (Some next) = Keeps next
 
-chosen_nest : (b : Bool) (first second : List Instr) (k : ℕ) → max (nest first) (nest second) + 1 + k ≤ 1024 → nest (cond b second first) + (k + 1) ≤ 1024
+chosen_nest : (b : Bool) (first second : List Instr) (k : ℕ) → max (nest first) (nest second) + 1 + k ≤ MOST_LABELS → nest (cond b second first) + (k + 1) ≤ MOST_LABELS
 chosen_nest true first second k h = omega (arith, h)
 chosen_nest false first second k h = omega (arith, h)
 
-entered_room : (r : Option ValueType) (goal body : List Instr) (d : Config) → HasRoom d → nest goal + labels d.layers ≤ 1024 → nest body + (labels d.layers + 1) ≤ 1024 → HasRoom (entered r goal body d)
+entered_room : (r : Option ValueType) (goal body : List Instr) (d : Config) → HasRoom d → nest goal + labels d.layers ≤ MOST_LABELS → nest body + (labels d.layers + 1) ≤ MOST_LABELS → HasRoom (entered r goal body d)
 entered_room r goal body d k g b = record { here = b; below = (g, k.here, k.below); few = k.few }
 
-module _ (m : Module) (within : IsWithin m) (here : List Instr) (c : Config) (h : HasRoom c) (target : nest here + labels c.layers ≤ 1024) where
-  keeps_control : (l : Instr-F Instr) → nest_of l + labels c.layers ≤ 1024 → KeepsIf (act_control m l here c)
+module _ (m : Module) (within : IsWithin m) (here : List Instr) (c : Config) (h : HasRoom c) (target : nest here + labels c.layers ≤ MOST_LABELS) where
+  keeps_control : (l : Instr-F Instr) → nest_of l + labels c.layers ≤ MOST_LABELS → KeepsIf (act_control m l here c)
   unfolding Keeps KeepsIf
   keeps_control F.Unreachable n = tt
   keeps_control F.Nop n = h
   keeps_control (F.Block r body) n = entered_room r c.code body c h h.here (omega arith)
   keeps_control (F.Loop r body) n = entered_room None here body c h target (omega arith)
-  keeps_control (F.If r first second) n = keeps_pop32 c _ h (λ p s k. entered_room r p.1.code (cond (p.0 == 0) second first) p.1 k k.here (chosen_nest (p.0 == 0) first second (labels p.1.layers) (subst (λ x. max (nest first) (nest second) + 1 + labels x ≤ 1024) (sym s.layers) n)))
+  keeps_control (F.If r first second) n = keeps_pop32 c _ h (λ p s k. entered_room r p.1.code (cond (p.0 == 0) second first) p.1 k k.here (chosen_nest (p.0 == 0) first second (labels p.1.layers) (subst (λ x. max (nest first) (nest second) + 1 + labels x ≤ MOST_LABELS) (sym s.layers) n)))
   keeps_control (F.Br k) n = keeps_branch (Some k) c h
   keeps_control (F.BrIf k) n = keeps_pop32 c _ h (λ p s r. keeps_if (p.0 == 0) (Goes p.1) (branch (Some k) p.1) r (keeps_branch (Some k) p.1 r))
   keeps_control (F.BrTable ks k) n = keeps_pop32 c _ h (λ p s r. keeps_branch (Some (get_or ks p.0 k)) p.1 r)
@@ -503,7 +504,7 @@ unfolding Keeps KeepsIf
 keeps_settled None k = tt
 keeps_settled (Some next) k = k
 
-keeps_act : (m : Module) (within : IsWithin m) (here : List Instr) (c : Config) → HasRoom c → nest here + labels c.layers ≤ 1024 → (l : Instr-F Instr) → nest_of l + labels c.layers ≤ 1024 → Keeps (act m l here c)
+keeps_act : (m : Module) (within : IsWithin m) (here : List Instr) (c : Config) → HasRoom c → nest here + labels c.layers ≤ MOST_LABELS → (l : Instr-F Instr) → nest_of l + labels c.layers ≤ MOST_LABELS → Keeps (act m l here c)
 unfolding act
 keeps_act m within here c h target l n =
     keeps_settled _
@@ -523,7 +524,7 @@ keeps_step m c within h = go c.code refl
     go : (is : List Instr) → c.code ≡ is → Keeps (at_code m is c)
     go [] e = keeps_leave c h
     go (i ∷ rest) e =
-        let n : max (nest_one i) (nest rest) + labels c.layers ≤ 1024 = subst (λ x. nest x + labels c.layers ≤ 1024) e h.here in
+        let n : max (nest_one i) (nest rest) + labels c.layers ≤ MOST_LABELS = subst (λ x. nest x + labels c.layers ≤ MOST_LABELS) e h.here in
         let k = nest_is i in
         keeps_act m within (i ∷ rest) (with_code rest c) (record { here = omega (arith, n); below = h.below; few = h.few }) n (out-Instr i) (omega (arith, n, k))
 
@@ -536,16 +537,16 @@ unfolding Keeps
 room_writes m text c d within h e = subst Keeps e (keeps_step m c within h)
 
 -- before the first step
-pub room_started : (m : Module) (main : CodeEntry) (input : List ℤ) → nest main.body ≤ 1024 → HasRoom (started m main input)
+pub room_started : (m : Module) (main : CodeEntry) (input : List ℤ) → nest main.body ≤ MOST_LABELS → HasRoom (started m main input)
 unfolding started
 room_started m main input le = record { here = omega (arith, le); below = (omega arith, tt); few = omega arith }
 
 pub main_is : (m : Module) (h : HasMain m) → main_code m ≡ Some h.code
 main_is m h = let lt : ltb h.index (length m.imports) ≡ false = le-ltb _ _ h.defined in rw (h.exported, lt) h.has_code
 
-pub main_is_within : (m : Module) (main : CodeEntry) → IsWithin m → main_code m ≡ Some main → (count_locals main.locals ≤ 4400) × (nest main.body ≤ 1024)
+pub main_is_within : (m : Module) (main : CodeEntry) → IsWithin m → main_code m ≡ Some main → (count_locals main.locals ≤ MOST_LOCALS) × (nest main.body ≤ MOST_LABELS)
 main_is_within m main within e =
     let h = within.main in
     let k = within.functions (h.index - length m.imports) h.type h.code h.has_type h.has_code in
     let is : h.code ≡ main = some_is h.code main (sym (main_is m h) ∙ e) in
-    subst (λ (f : CodeEntry). (count_locals f.locals ≤ 4400) × (nest f.body ≤ 1024)) is (omega (arith, k.locals), k.labels)
+    subst (λ (f : CodeEntry). (count_locals f.locals ≤ MOST_LOCALS) × (nest f.body ≤ MOST_LABELS)) is (omega (arith, k.locals), k.labels)

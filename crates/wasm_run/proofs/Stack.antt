@@ -7,6 +7,7 @@ use Rattle.wasm_form.specs.Steps as steps
 use Rattle.wasm_run.specs.declared.state.State.TheInside.{Inside}
 use Rattle.wasm_form.specs.Steps.{below_all, operands}
 use Rattle.wasm_run.specs.Views.{layers_of, locals_below, Falls, view_of, IsSound}
+use Rattle.wasm_form.specs.declared.limits.TheConstants.{MOST_OPERANDS}
 
 pub reverse_push : (b : ℕ) (vs : List Value) (v : Value) → b ≤ length vs → reverse (drop b (vs ++ v ∷ [])) ≡ v ∷ reverse (drop b vs)
 reverse_push b vs v le = ap reverse (drop-append-le b vs (v ∷ []) le) ∙ reverse-append (drop b vs) (v ∷ [])
@@ -43,7 +44,7 @@ length_layers s = length_of (reverse s.layers.items) (take s.base s.values.items
 
 -- where one value was taken there is room for one
 pub room_after_pop : (s : Inside) (vs : List Value) → IsSound s → s.base < length s.values.items → vs ≡ take (length s.values.items - 1) s.values.items
-    → length (reverse (drop s.base vs)) + below_all (layers_of (reverse s.layers.items) (take s.base vs) (take s.locals_base s.locals.items)) < 1048576
+    → length (reverse (drop s.base vs)) + below_all (layers_of (reverse s.layers.items) (take s.base vs) (take s.locals_base s.locals.items)) < MOST_OPERANDS
 room_after_pop s vs h lt e =
     let n : length vs ≡ length s.values.items - 1 = ap length e ∙ omega (arith, length-take (length s.values.items - 1) s.values.items) in
     let t : length (take s.base vs) ≡ s.base = omega (arith, length-take s.base vs) in

@@ -11,6 +11,7 @@ use Rattle.wasm_run.specs.declared.state.Went.TheVariants as went
 use Rattle.wasm_run.specs.declared.state.State.TheInside.{Inside}
 use Rattle.wasm_form.specs.Steps as steps
 use Rattle.wasm_form.specs.Steps.{Config, Next, Goes, Writes, Ends, Traps, Stuck, target_of}
+use Rattle.wasm_form.specs.declared.limits.TheConstants.{MOST_LOCALS, MOST_LABELS, MOST_FRAMES, MOST_OPERANDS}
 
 -- ---- answers
 
@@ -74,7 +75,7 @@ Falls (x ∷ xs) n = (x.base ≤ n) × Falls xs x.base
 
 -- and those where the locals begin; d frames stand round
 abbrev pub Restores : Bool → (locals n depth d : ℕ) → Type 0
-Restores true locals n depth d = (locals ≤ n) × (d ≡ depth + 1) × (n ≤ 4400 * depth)
+Restores true locals n depth d = (locals ≤ n) × (d ≡ depth + 1) × (n ≤ MOST_LOCALS * depth)
 Restores false locals n depth d = (n ≡ locals) × (d ≡ depth)
 
 abbrev pub LocalsFall : List Layer → ℕ → ℕ → Type 0
@@ -113,9 +114,9 @@ pub record IsSound (s : Inside) : Type 0 where
   pub falls : Falls (reverse s.layers.items) s.base
   pub locals_fall : LocalsFall (reverse s.layers.items) s.locals_base s.depth
   pub locals : s.locals_base ≤ length s.locals.items
-  pub depth : s.depth ≤ 1001
-  pub few : length s.locals.items ≤ 4400 * s.depth
-  pub few_values : length s.values.items ≤ 1048576
-  pub room_locals : 4404400 ≤ vec_capacity s.locals
-  pub room : 1048576 ≤ vec_capacity s.values
-  pub room_layers : 1027050 ≤ vec_capacity s.layers
+  pub depth : s.depth ≤ MOST_FRAMES
+  pub few : length s.locals.items ≤ MOST_LOCALS * s.depth
+  pub few_values : length s.values.items ≤ MOST_OPERANDS
+  pub room_locals : MOST_FRAMES * MOST_LOCALS ≤ vec_capacity s.locals
+  pub room : MOST_OPERANDS ≤ vec_capacity s.values
+  pub room_layers : (MOST_FRAMES + 1) * (MOST_LABELS + 1) ≤ vec_capacity s.layers

@@ -3,6 +3,7 @@ ghost use Rattle.wasm_form.specs.Steps.{operands, pushed, given, pop, pop32, pop
 ghost use Rattle.wasm_run.specs.Views.{Took, Shows};
 
 use std::marker::Model;
+use wasm_form::limits::{MOST_FRAMES, MOST_LABELS, MOST_LOCALS, MOST_OPERANDS};
 use wasm_form::traps::TOO_MANY_OPERANDS;
 use wasm_form::{Instr, Value, ValueType};
 
@@ -87,12 +88,11 @@ impl<'m> Model for State<'m> {
     ghost invariant = { IsSound };
 }
 
-/// The most values, as `wasm_form::limits::MOST_OPERANDS`.
-const MOST_VALUES: usize = 1_048_576;
-/// The most layers: a frame and 1,024 labels, for each of 1,001 frames and the first.
-const MOST_LAYERS: usize = 1_027_050;
-/// The most locals: 4,400 for each of 1,001 frames.
-const MOST_LOCALS: usize = 4_404_400;
+const MOST_VALUES: usize = MOST_OPERANDS as usize;
+/// The most layers: a frame and its labels, for each frame and the first.
+const MOST_LAYERS: usize = (MOST_FRAMES as usize + 1) * (MOST_LABELS as usize + 1);
+/// The most locals of all frames.
+const MOST_LOCALS_HELD: usize = MOST_FRAMES as usize * MOST_LOCALS as usize;
 
 pub(crate) fn type_of(value: Value) -> ValueType
     ensures { result ≡ type_of_value value }

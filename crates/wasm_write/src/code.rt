@@ -32,11 +32,11 @@ fn push_immediates(alloc: Global, out: &mut Vec<u8>, instr: &Instr) -> Result<()
         Instr::Loop(block_type, body) => push_block(alloc, out, *block_type, body.as_slice()),
         Instr::If(block_type, first, second) => {
             out.push(block_byte(*block_type))?;
-            push_code(alloc, out, first.as_slice())?;
-            push_second(alloc, out, second.as_slice())
+            push_code(alloc, out, first.get().as_slice())?;
+            push_second(alloc, out, second.get().as_slice())
         }
         Instr::BrTable(labels, default) => {
-            push_list(alloc, out, labels.as_slice())?;
+            push_list(alloc, out, labels.get().as_slice())?;
             push_unsigned(out, u64::from(*default))
         }
         Instr::CallIndirect(index) => {

@@ -5,6 +5,7 @@ ghost use Rattle.own_tree.specs.View.{stmt_view, block_view, stms_of};
 ghost use Rattle.own_grammar.specs.Nesting.{nest_stm, nest_stms, nest_blk};
 ghost use Rattle.own_grammar.specs.Reading as spec;
 ghost use Rattle.own_expr.specs.Gives.{Gives};
+ghost use Rattle.own_expr.specs.Reads.{reader};
 
 use super::Read;
 use super::statements::statement_of;
@@ -23,7 +24,7 @@ use std::alloc::Global;
 #[tactic(auto, unfolding(own_grammar::specs::Reading::separated_with))]
 pub fn separated_of(alloc: Global, rest: &[Token], depth: u32) -> Read<'_, Stmt>
     requires limit { depth ≤ MOST_NESTING }
-    ensures gives { Gives (λ x. (stmt_view x.0, x.2.now)) result (spec.separated_with MOST_NESTING (spec.read MOST_NESTING) depth rest.now) }
+    ensures gives { Gives (λ x. (stmt_view x.0, x.2.now)) result (spec.separated_with MOST_NESTING reader depth rest.now) }
     ensures height { IfOk result (λ x. x.1 ≡ nest_stm (stmt_view x.0)) }
     ensures fits { IfOk result (λ x. depth + x.1 ≤ MOST_NESTING) }
     ensures shorter { IfOk result (λ x. length x.2.now < length rest.now) }
@@ -37,7 +38,7 @@ pub fn separated_of(alloc: Global, rest: &[Token], depth: u32) -> Read<'_, Stmt>
 #[cycle(parse)]
 pub fn statements_goal(alloc: Global, rest: &[Token], depth: u32) -> Read<'_, Items<Stmt>>
     requires limit { depth ≤ MOST_NESTING }
-    ensures gives { Gives (λ x. (map stmt_view x.0, x.2.now)) result (spec.read MOST_NESTING (spec.Goal.statements_on []) depth rest.now) }
+    ensures gives { Gives (λ x. (map stmt_view x.0, x.2.now)) result (reader (spec.Goal.statements_on []) depth rest.now) }
     ensures height { IfOk result (λ x. x.1 ≡ nest_stms (stms_of (map stmt_view x.0))) }
     ensures fits { IfOk result (λ x. depth + x.1 ≤ MOST_NESTING) }
     ensures shorter { IfOk result (λ x. length x.2.now ≤ length rest.now) }
@@ -58,7 +59,7 @@ pub fn statements_goal(alloc: Global, rest: &[Token], depth: u32) -> Read<'_, It
 #[tactic(auto, unfolding(own_grammar::specs::Reading::block_with))]
 fn block_of(alloc: Global, rest: &[Token], depth: u32) -> Read<'_, Block>
     requires limit { depth ≤ MOST_NESTING }
-    ensures gives { Gives (λ x. (block_view x.0, x.2.now)) result (spec.block_with MOST_NESTING (spec.read MOST_NESTING) depth rest.now) }
+    ensures gives { Gives (λ x. (block_view x.0, x.2.now)) result (spec.block_with MOST_NESTING reader depth rest.now) }
     ensures height { IfOk result (λ x. x.1 ≡ nest_blk (block_view x.0)) }
     ensures fits { IfOk result (λ x. depth + x.1 ≤ MOST_NESTING) }
     ensures shorter { IfOk result (λ x. length x.2.now < length rest.now) }
@@ -78,7 +79,7 @@ fn block_of(alloc: Global, rest: &[Token], depth: u32) -> Read<'_, Block>
 #[cycle(parse)]
 pub fn body_goal(alloc: Global, rest: &[Token], depth: u32) -> Read<'_, Block>
     requires limit { depth ≤ MOST_NESTING }
-    ensures gives { Gives (λ x. (block_view x.0, x.2.now)) result (spec.read MOST_NESTING spec.Goal.body depth rest.now) }
+    ensures gives { Gives (λ x. (block_view x.0, x.2.now)) result (reader spec.Goal.body depth rest.now) }
     ensures height { IfOk result (λ x. x.1 ≡ nest_blk (block_view x.0)) }
     ensures fits { IfOk result (λ x. depth + x.1 ≤ MOST_NESTING) }
     ensures shorter { IfOk result (λ x. length x.2.now < length rest.now) }

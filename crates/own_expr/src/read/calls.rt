@@ -5,11 +5,12 @@ ghost use Rattle.own_tree.specs.View.{expr_view, passed_view, argument_view, clo
 ghost use Rattle.own_grammar.specs.Nesting.{nest, nest_given, nest_args, nest_clo};
 ghost use Rattle.own_grammar.specs.Reading as spec;
 ghost use Rattle.own_expr.specs.Gives.{Gives};
+ghost use Rattle.own_expr.specs.Reads.{reader};
 
 use super::Read;
 use super::blocks::statements_goal;
 use super::expressions::expression_of;
-use crate::fault::ReadError;
+use crate::fault::{ReadError, without};
 use crate::lines::{closes, label_at, opens};
 use crate::makers::{call, call_closing, call_closure, member};
 use crate::next::{after, here, is_mark, name_at, till};
@@ -28,7 +29,7 @@ use std::alloc::Global;
 fn closure_of(alloc: Global, rest: &[Token], depth: u32) -> Read<'_, Closure>
     requires limit { depth ≤ MOST_NESTING }
     requires some { 0 < length rest.now }
-    ensures gives { Gives (λ x. (closure_view x.0, x.2.now)) result (spec.closure_with MOST_NESTING (spec.read MOST_NESTING) depth rest.now) }
+    ensures gives { Gives (λ x. (closure_view x.0, x.2.now)) result (spec.closure_with MOST_NESTING reader depth rest.now) }
     ensures height { IfOk result (λ x. x.1 ≡ nest_clo (closure_view x.0)) }
     ensures fits { IfOk result (λ x. depth + x.1 ≤ MOST_NESTING) }
     ensures shorter { IfOk result (λ x. length x.2.now < length rest.now) }
@@ -55,7 +56,7 @@ fn closure_of(alloc: Global, rest: &[Token], depth: u32) -> Read<'_, Closure>
 #[tactic(auto, unfolding(own_grammar::specs::Reading::given_with))]
 fn given_of(alloc: Global, rest: &[Token], depth: u32) -> Read<'_, Passed>
     requires limit { depth ≤ MOST_NESTING }
-    ensures gives { Gives (λ x. (passed_view x.0, x.2.now)) result (spec.given_with MOST_NESTING (spec.read MOST_NESTING) depth rest.now) }
+    ensures gives { Gives (λ x. (passed_view x.0, x.2.now)) result (spec.given_with MOST_NESTING reader depth rest.now) }
     ensures height { IfOk result (λ x. x.1 ≡ nest_given (passed_view x.0)) }
     ensures fits { IfOk result (λ x. depth + x.1 ≤ MOST_NESTING) }
     ensures shorter { IfOk result (λ x. length x.2.now < length rest.now) }
@@ -75,7 +76,7 @@ fn given_of(alloc: Global, rest: &[Token], depth: u32) -> Read<'_, Passed>
 #[tactic(auto, unfolding(own_grammar::specs::Reading::argument_with))]
 fn argument_of(alloc: Global, rest: &[Token], depth: u32) -> Read<'_, Argument>
     requires limit { depth < MOST_NESTING }
-    ensures gives { Gives (λ x. (argument_view x.0, x.2.now)) result (spec.argument_with MOST_NESTING (spec.read MOST_NESTING) depth rest.now) }
+    ensures gives { Gives (λ x. (argument_view x.0, x.2.now)) result (spec.argument_with MOST_NESTING reader depth rest.now) }
     ensures height { IfOk result (λ x. x.1 ≡ nest_given (argument_view x.0).1) }
     ensures fits { IfOk result (λ x. depth + x.1 < MOST_NESTING) }
     ensures shorter { IfOk result (λ x. length x.2.now < length rest.now) }
@@ -106,7 +107,7 @@ fn argument_of(alloc: Global, rest: &[Token], depth: u32) -> Read<'_, Argument>
 #[cycle(parse)]
 fn arguments_of(alloc: Global, rest: &[Token], depth: u32) -> Read<'_, Items<Argument>>
     requires limit { depth < MOST_NESTING }
-    ensures gives { Gives (λ x. (map argument_view x.0, x.2.now)) result (spec.arguments_with MOST_NESTING (spec.read MOST_NESTING) [] depth rest.now) }
+    ensures gives { Gives (λ x. (map argument_view x.0, x.2.now)) result (spec.arguments_with MOST_NESTING reader [] depth rest.now) }
     ensures height { IfOk result (λ x. x.1 ≡ nest_args (args_of (map argument_view x.0))) }
     ensures fits { IfOk result (λ x. depth + x.1 < MOST_NESTING) }
     ensures shorter { IfOk result (λ x. length x.2.now < length rest.now) }
@@ -130,7 +131,7 @@ fn arguments_of(alloc: Global, rest: &[Token], depth: u32) -> Read<'_, Items<Arg
 #[tactic(auto, unfolding(own_grammar::specs::Reading::all_arguments_with))]
 fn all_arguments_of(alloc: Global, rest: &[Token], depth: u32) -> Read<'_, Items<Argument>>
     requires limit { depth < MOST_NESTING }
-    ensures gives { Gives (λ x. (map argument_view x.0, x.2.now)) result (spec.all_arguments_with MOST_NESTING (spec.read MOST_NESTING) depth rest.now) }
+    ensures gives { Gives (λ x. (map argument_view x.0, x.2.now)) result (spec.all_arguments_with MOST_NESTING reader depth rest.now) }
     ensures height { IfOk result (λ x. x.1 ≡ nest_args (args_of (map argument_view x.0))) }
     ensures fits { IfOk result (λ x. depth + x.1 < MOST_NESTING) }
     ensures shorter { IfOk result (λ x. length x.2.now ≤ length rest.now) }
@@ -159,17 +160,20 @@ fn called_of(
     requires callee_fits { depth + height < MOST_NESTING }
     requires arguments { arguments_height ≡ nest_args (args_of (map argument_view arguments)) }
     requires arguments_fit { depth + arguments_height < MOST_NESTING }
-    ensures gives { Gives (λ x. (expr_view x.0, x.2.now)) result (spec.called_with MOST_NESTING (spec.read MOST_NESTING) context (expr_view callee) depth (map argument_view arguments) rest.now) }
+    ensures gives { Gives (λ x. (expr_view x.0, x.2.now)) result (spec.called_with MOST_NESTING reader context (expr_view callee) depth (map argument_view arguments) rest.now) }
     ensures height { IfOk result (λ x. x.1 ≡ nest (expr_view x.0)) }
     ensures fits { IfOk result (λ x. depth + x.1 ≤ MOST_NESTING) }
     ensures shorter { IfOk result (λ x. length x.2.now ≤ length rest.now) }
 {
     if !is_mark(Mark::CloseParen, rest) {
-        return Err(ReadError::Syntax(rest.len()));
+        return Err(without(callee, ReadError::Syntax(rest.len())));
     }
     let more = after(rest);
     if closes(context, more) {
-        let (closure, closure_height, last) = closure_of(alloc, more, depth + 1)?;
+        let (closure, closure_height, last) = match closure_of(alloc, more, depth + 1) {
+            Ok(closure) => closure,
+            Err(fault) => return Err(without(callee, fault)),
+        };
         let e = call_closing(alloc, callee, arguments, closure)?;
         let height = height.max(arguments_height.max(closure_height)) + 1;
         return calls_goal(alloc, last, context, e, height, depth);
@@ -200,15 +204,18 @@ fn call_of(
     requires some { 0 < length rest.now }
     requires callee { height ≡ nest (expr_view callee) }
     requires callee_fits { depth + height ≤ MOST_NESTING }
-    ensures gives { Gives (λ x. (expr_view x.0, x.2.now)) result (spec.call_with MOST_NESTING (spec.read MOST_NESTING) context (expr_view callee) depth rest.now) }
+    ensures gives { Gives (λ x. (expr_view x.0, x.2.now)) result (spec.call_with MOST_NESTING reader context (expr_view callee) depth rest.now) }
     ensures height { IfOk result (λ x. x.1 ≡ nest (expr_view x.0)) }
     ensures fits { IfOk result (λ x. depth + x.1 ≤ MOST_NESTING) }
     ensures shorter { IfOk result (λ x. length x.2.now ≤ length rest.now) }
 {
     if depth + height >= MOST_NESTING {
-        return Err(ReadError::Depth(after(rest).len()));
+        return Err(without(callee, ReadError::Depth(after(rest).len())));
     }
-    let (arguments, arguments_height, more) = all_arguments_of(alloc, after(rest), depth)?;
+    let (arguments, arguments_height, more) = match all_arguments_of(alloc, after(rest), depth) {
+        Ok(arguments) => arguments,
+        Err(fault) => return Err(without(callee, fault)),
+    };
     called_of(
         alloc,
         more,
@@ -236,15 +243,18 @@ fn closing_of(
     requires some { 0 < length rest.now }
     requires callee { height ≡ nest (expr_view callee) }
     requires callee_fits { depth + height ≤ MOST_NESTING }
-    ensures gives { Gives (λ x. (expr_view x.0, x.2.now)) result (spec.closing_with MOST_NESTING (spec.read MOST_NESTING) context (expr_view callee) depth rest.now) }
+    ensures gives { Gives (λ x. (expr_view x.0, x.2.now)) result (spec.closing_with MOST_NESTING reader context (expr_view callee) depth rest.now) }
     ensures height { IfOk result (λ x. x.1 ≡ nest (expr_view x.0)) }
     ensures fits { IfOk result (λ x. depth + x.1 ≤ MOST_NESTING) }
     ensures shorter { IfOk result (λ x. length x.2.now ≤ length rest.now) }
 {
     if depth + height >= MOST_NESTING {
-        return Err(ReadError::Depth(after(rest).len()));
+        return Err(without(callee, ReadError::Depth(after(rest).len())));
     }
-    let (closure, closure_height, more) = closure_of(alloc, rest, depth + 1)?;
+    let (closure, closure_height, more) = match closure_of(alloc, rest, depth + 1) {
+        Ok(closure) => closure,
+        Err(fault) => return Err(without(callee, fault)),
+    };
     let e = call_closure(alloc, callee, closure)?;
     calls_goal(
         alloc,
@@ -271,20 +281,23 @@ fn member_of(
     requires some { 0 < length rest.now }
     requires whole { height ≡ nest (expr_view whole) }
     requires whole_fits { depth + height ≤ MOST_NESTING }
-    ensures gives { Gives (λ x. (expr_view x.0, x.2.now)) result (spec.member_with MOST_NESTING (spec.read MOST_NESTING) context (expr_view whole) depth rest.now) }
+    ensures gives { Gives (λ x. (expr_view x.0, x.2.now)) result (spec.member_with MOST_NESTING reader context (expr_view whole) depth rest.now) }
     ensures height { IfOk result (λ x. x.1 ≡ nest (expr_view x.0)) }
     ensures fits { IfOk result (λ x. depth + x.1 ≤ MOST_NESTING) }
     ensures shorter { IfOk result (λ x. length x.2.now ≤ length rest.now) }
 {
     let more = after(rest);
     if depth + height >= MOST_NESTING {
-        return Err(ReadError::Depth(more.len()));
+        return Err(without(whole, ReadError::Depth(more.len())));
     }
-    if let Some(name) = name_at(alloc, more)? {
-        let e = member(alloc, whole, here(more), name)?;
-        return calls_goal(alloc, after(more), context, e, height + 1, depth);
+    match name_at(alloc, more) {
+        Ok(Some(name)) => {
+            let e = member(alloc, whole, here(more), name)?;
+            calls_goal(alloc, after(more), context, e, height + 1, depth)
+        }
+        Ok(None) => Err(without(whole, ReadError::Syntax(more.len()))),
+        Err(_) => Err(without(whole, ReadError::Memory)),
     }
-    Err(ReadError::Syntax(more.len()))
 }
 
 /// Members and calls after `left`.
@@ -301,7 +314,7 @@ fn calls_of(
     requires limit { depth ≤ MOST_NESTING }
     requires left { height ≡ nest (expr_view left) }
     requires left_fits { depth + height ≤ MOST_NESTING }
-    ensures gives { Gives (λ x. (expr_view x.0, x.2.now)) result (spec.calls_with MOST_NESTING (spec.read MOST_NESTING) context (expr_view left) depth rest.now) }
+    ensures gives { Gives (λ x. (expr_view x.0, x.2.now)) result (spec.calls_with MOST_NESTING reader context (expr_view left) depth rest.now) }
     ensures height { IfOk result (λ x. x.1 ≡ nest (expr_view x.0)) }
     ensures fits { IfOk result (λ x. depth + x.1 ≤ MOST_NESTING) }
     ensures shorter { IfOk result (λ x. length x.2.now ≤ length rest.now) }
@@ -330,7 +343,7 @@ pub fn calls_goal(
     requires limit { depth ≤ MOST_NESTING }
     requires left { height ≡ nest (expr_view left) }
     requires left_fits { depth + height ≤ MOST_NESTING }
-    ensures gives { Gives (λ x. (expr_view x.0, x.2.now)) result (spec.read MOST_NESTING (spec.Goal.calls_on context (expr_view left)) depth rest.now) }
+    ensures gives { Gives (λ x. (expr_view x.0, x.2.now)) result (reader (spec.Goal.calls_on context (expr_view left)) depth rest.now) }
     ensures height { IfOk result (λ x. x.1 ≡ nest (expr_view x.0)) }
     ensures fits { IfOk result (λ x. depth + x.1 ≤ MOST_NESTING) }
     ensures shorter { IfOk result (λ x. length x.2.now ≤ length rest.now) }

@@ -5,11 +5,12 @@ ghost use Rattle.own_tree.specs.View.{expr_view};
 ghost use Rattle.own_grammar.specs.Nesting.{nest, chains};
 ghost use Rattle.own_grammar.specs.Reading as spec;
 ghost use Rattle.own_expr.specs.Gives.{Gives};
+ghost use Rattle.own_expr.specs.Reads.{reader};
 
 use super::Read;
 use super::calls::calls_goal;
 use crate::atoms::atom_of;
-use crate::fault::ReadError;
+use crate::fault::{ReadError, without};
 use crate::makers::{choice, parenthesized, prefix};
 use crate::next::{after, here, is_mark, is_word, till};
 use crate::nodes::binary;
@@ -29,14 +30,14 @@ const LEVELS: u32 = 5;
 fn parenthesized_of(alloc: Global, rest: &[Token], depth: u32) -> Read<'_, Expr>
     requires limit { depth < MOST_NESTING }
     requires some { 0 < length rest.now }
-    ensures gives { Gives (λ x. (expr_view x.0, x.2.now)) result (spec.parenthesized_with (spec.read MOST_NESTING) depth rest.now) }
+    ensures gives { Gives (λ x. (expr_view x.0, x.2.now)) result (spec.parenthesized_with reader depth rest.now) }
     ensures height { IfOk result (λ x. x.1 ≡ nest (expr_view x.0)) }
     ensures fits { IfOk result (λ x. depth + x.1 ≤ MOST_NESTING) }
     ensures shorter { IfOk result (λ x. length x.2.now < length rest.now) }
 {
     let (inner, height, more) = expression_goal(alloc, after(rest), Context::Inside, depth + 1)?;
     if !is_mark(Mark::CloseParen, more) {
-        return Err(ReadError::Syntax(more.len()));
+        return Err(without(inner, ReadError::Syntax(more.len())));
     }
     let span = till(here(rest), here(more));
     Ok((parenthesized(alloc, span, inner)?, height + 1, after(more)))
@@ -45,7 +46,7 @@ fn parenthesized_of(alloc: Global, rest: &[Token], depth: u32) -> Read<'_, Expr>
 #[cycle(parse)]
 fn primary_of(alloc: Global, rest: &[Token], tight: bool, depth: u32) -> Read<'_, Expr>
     requires limit { depth < MOST_NESTING }
-    ensures gives { Gives (λ x. (expr_view x.0, x.2.now)) result (spec.primary_with (spec.read MOST_NESTING) tight depth rest.now) }
+    ensures gives { Gives (λ x. (expr_view x.0, x.2.now)) result (spec.primary_with reader tight depth rest.now) }
     ensures height { IfOk result (λ x. x.1 ≡ nest (expr_view x.0)) }
     ensures fits { IfOk result (λ x. depth + x.1 ≤ MOST_NESTING) }
     ensures shorter { IfOk result (λ x. length x.2.now < length rest.now) }
@@ -66,7 +67,7 @@ fn post_of(
     depth: u32,
 ) -> Read<'_, Expr>
     requires limit { depth < MOST_NESTING }
-    ensures gives { Gives (λ x. (expr_view x.0, x.2.now)) result (spec.post_with (spec.read MOST_NESTING) tight context depth rest.now) }
+    ensures gives { Gives (λ x. (expr_view x.0, x.2.now)) result (spec.post_with reader tight context depth rest.now) }
     ensures height { IfOk result (λ x. x.1 ≡ nest (expr_view x.0)) }
     ensures fits { IfOk result (λ x. depth + x.1 ≤ MOST_NESTING) }
     ensures shorter { IfOk result (λ x. length x.2.now < length rest.now) }
@@ -86,7 +87,7 @@ fn prefix_of(
 ) -> Read<'_, Expr>
     requires limit { depth < MOST_NESTING }
     requires some { 0 < length rest.now }
-    ensures gives { Gives (λ x. (expr_view x.0, x.2.now)) result (spec.prefix_with (spec.read MOST_NESTING) sign context depth rest.now) }
+    ensures gives { Gives (λ x. (expr_view x.0, x.2.now)) result (spec.prefix_with reader sign context depth rest.now) }
     ensures height { IfOk result (λ x. x.1 ≡ nest (expr_view x.0)) }
     ensures fits { IfOk result (λ x. depth + x.1 ≤ MOST_NESTING) }
     ensures shorter { IfOk result (λ x. length x.2.now < length rest.now) }
@@ -105,7 +106,7 @@ fn pre_of(
     depth: u32,
 ) -> Read<'_, Expr>
     requires limit { depth ≤ MOST_NESTING }
-    ensures gives { Gives (λ x. (expr_view x.0, x.2.now)) result (spec.pre_with MOST_NESTING (spec.read MOST_NESTING) tight context depth rest.now) }
+    ensures gives { Gives (λ x. (expr_view x.0, x.2.now)) result (spec.pre_with MOST_NESTING reader tight context depth rest.now) }
     ensures height { IfOk result (λ x. x.1 ≡ nest (expr_view x.0)) }
     ensures fits { IfOk result (λ x. depth + x.1 ≤ MOST_NESTING) }
     ensures shorter { IfOk result (λ x. length x.2.now < length rest.now) }
@@ -126,7 +127,7 @@ fn pre_of(
 #[cycle(parse)]
 fn operand_goal(alloc: Global, rest: &[Token], context: Context, depth: u32) -> Read<'_, Expr>
     requires limit { depth ≤ MOST_NESTING }
-    ensures gives { Gives (λ x. (expr_view x.0, x.2.now)) result (spec.read MOST_NESTING (spec.Goal.operand context) depth rest.now) }
+    ensures gives { Gives (λ x. (expr_view x.0, x.2.now)) result (reader (spec.Goal.operand context) depth rest.now) }
     ensures height { IfOk result (λ x. x.1 ≡ nest (expr_view x.0)) }
     ensures fits { IfOk result (λ x. depth + x.1 ≤ MOST_NESTING) }
     ensures shorter { IfOk result (λ x. length x.2.now < length rest.now) }
@@ -139,7 +140,7 @@ fn operand_goal(alloc: Global, rest: &[Token], context: Context, depth: u32) -> 
 fn level_of(alloc: Global, rest: &[Token], j: u32, context: Context, depth: u32) -> Read<'_, Expr>
     requires limit { depth ≤ MOST_NESTING }
     requires few { j ≤ LEVELS }
-    ensures gives { Gives (λ x. (expr_view x.0, x.2.now)) result (spec.level_with MOST_NESTING (spec.read MOST_NESTING) j context depth rest.now) }
+    ensures gives { Gives (λ x. (expr_view x.0, x.2.now)) result (spec.level_with MOST_NESTING reader j context depth rest.now) }
     ensures height { IfOk result (λ x. x.1 ≡ nest (expr_view x.0)) }
     ensures fits { IfOk result (λ x. depth + x.1 ≤ MOST_NESTING) }
     ensures shorter { IfOk result (λ x. length x.2.now < length rest.now) }
@@ -167,7 +168,7 @@ fn operators_of(
     requires few { j < LEVELS }
     requires left { height ≡ nest (expr_view left) }
     requires left_fits { depth + height ≤ MOST_NESTING }
-    ensures gives { Gives (λ x. (expr_view x.0, x.2.now)) result (spec.operators_with MOST_NESTING (spec.read MOST_NESTING) j context (expr_view left) depth rest.now) }
+    ensures gives { Gives (λ x. (expr_view x.0, x.2.now)) result (spec.operators_with MOST_NESTING reader j context (expr_view left) depth rest.now) }
     ensures height { IfOk result (λ x. x.1 ≡ nest (expr_view x.0)) }
     ensures fits { IfOk result (λ x. depth + x.1 ≤ MOST_NESTING) }
     ensures shorter { IfOk result (λ x. length x.2.now ≤ length rest.now) }
@@ -177,9 +178,18 @@ fn operators_of(
             return Ok((left, height, rest));
         }
         if depth + height >= MOST_NESTING {
-            return Err(ReadError::Depth(after(rest).len()));
+            return Err(without(left, ReadError::Depth(after(rest).len())));
         }
-        let (right, right_height, more) = level_of(alloc, after(rest), j, context, depth + 1)?;
+        let (right, right_height, more) = match level_of(
+            alloc,
+            after(rest),
+            j,
+            context,
+            depth + 1,
+        ) {
+            Ok(right) => right,
+            Err(fault) => return Err(without(left, fault)),
+        };
         let e = binary(alloc, left, operator, here(rest), right)?;
         return next_of(
             alloc,
@@ -210,7 +220,7 @@ fn next_of(
     requires few { j < LEVELS }
     requires left { height ≡ nest (expr_view left) }
     requires left_fits { depth + height ≤ MOST_NESTING }
-    ensures gives { Gives (λ x. (expr_view x.0, x.2.now)) result (spec.next_with (spec.read MOST_NESTING) (chains (suc j)) j context depth (expr_view left) rest.now) }
+    ensures gives { Gives (λ x. (expr_view x.0, x.2.now)) result (spec.next_with reader (chains (suc j)) j context depth (expr_view left) rest.now) }
     ensures height { IfOk result (λ x. x.1 ≡ nest (expr_view x.0)) }
     ensures fits { IfOk result (λ x. depth + x.1 ≤ MOST_NESTING) }
     ensures shorter { IfOk result (λ x. length x.2.now ≤ length rest.now) }
@@ -236,7 +246,7 @@ fn operators_goal(
     requires few { j < LEVELS }
     requires left { height ≡ nest (expr_view left) }
     requires left_fits { depth + height ≤ MOST_NESTING }
-    ensures gives { Gives (λ x. (expr_view x.0, x.2.now)) result (spec.read MOST_NESTING (spec.Goal.operators_on j context (expr_view left)) depth rest.now) }
+    ensures gives { Gives (λ x. (expr_view x.0, x.2.now)) result (reader (spec.Goal.operators_on j context (expr_view left)) depth rest.now) }
     ensures height { IfOk result (λ x. x.1 ≡ nest (expr_view x.0)) }
     ensures fits { IfOk result (λ x. depth + x.1 ≤ MOST_NESTING) }
     ensures shorter { IfOk result (λ x. length x.2.now ≤ length rest.now) }
@@ -258,16 +268,28 @@ fn branches_of(
     requires limit { depth < MOST_NESTING }
     requires condition { height ≡ nest (expr_view condition) }
     requires condition_fits { depth + height < MOST_NESTING }
-    ensures gives { Gives (λ x. (expr_view x.0, x.2.now)) result (spec.branches_with (spec.read MOST_NESTING) context depth (expr_view condition) rest.now) }
+    ensures gives { Gives (λ x. (expr_view x.0, x.2.now)) result (spec.branches_with reader context depth (expr_view condition) rest.now) }
     ensures height { IfOk result (λ x. x.1 ≡ nest (expr_view x.0)) }
     ensures fits { IfOk result (λ x. depth + x.1 ≤ MOST_NESTING) }
     ensures shorter { IfOk result (λ x. length x.2.now ≤ length rest.now) }
 {
-    let (first, first_height, more) = expression_goal(alloc, rest, context, depth + 1)?;
+    let (first, first_height, more) = match expression_goal(alloc, rest, context, depth + 1) {
+        Ok(first) => first,
+        Err(fault) => return Err(without(condition, fault)),
+    };
     if !is_mark(Mark::Colon, more) {
-        return Err(ReadError::Syntax(more.len()));
+        let fault = without(first, ReadError::Syntax(more.len()));
+        return Err(without(condition, fault));
     }
-    let (second, second_height, last) = expression_goal(alloc, after(more), context, depth + 1)?;
+    let (second, second_height, last) = match expression_goal(
+        alloc,
+        after(more),
+        context,
+        depth + 1,
+    ) {
+        Ok(second) => second,
+        Err(fault) => return Err(without(condition, without(first, fault))),
+    };
     let e = choice(alloc, condition, first, second)?;
     Ok((e, height.max(first_height.max(second_height)) + 1, last))
 }
@@ -286,7 +308,7 @@ fn choice_of(
     requires limit { depth ≤ MOST_NESTING }
     requires condition { height ≡ nest (expr_view condition) }
     requires condition_fits { depth + height ≤ MOST_NESTING }
-    ensures gives { Gives (λ x. (expr_view x.0, x.2.now)) result (spec.choice_with MOST_NESTING (spec.read MOST_NESTING) context depth (expr_view condition) rest.now) }
+    ensures gives { Gives (λ x. (expr_view x.0, x.2.now)) result (spec.choice_with MOST_NESTING reader context depth (expr_view condition) rest.now) }
     ensures height { IfOk result (λ x. x.1 ≡ nest (expr_view x.0)) }
     ensures fits { IfOk result (λ x. depth + x.1 ≤ MOST_NESTING) }
     ensures shorter { IfOk result (λ x. length x.2.now ≤ length rest.now) }
@@ -295,7 +317,7 @@ fn choice_of(
         return Ok((condition, height, rest));
     }
     if depth + height >= MOST_NESTING {
-        return Err(ReadError::Depth(after(rest).len()));
+        return Err(without(condition, ReadError::Depth(after(rest).len())));
     }
     branches_of(alloc, after(rest), context, condition, height, depth)
 }
@@ -304,7 +326,7 @@ fn choice_of(
 #[tactic(auto, unfolding(own_grammar::specs::Reading::expression_with))]
 pub fn expression_of(alloc: Global, rest: &[Token], context: Context, depth: u32) -> Read<'_, Expr>
     requires limit { depth ≤ MOST_NESTING }
-    ensures gives { Gives (λ x. (expr_view x.0, x.2.now)) result (spec.expression_with MOST_NESTING (spec.read MOST_NESTING) context depth rest.now) }
+    ensures gives { Gives (λ x. (expr_view x.0, x.2.now)) result (spec.expression_with MOST_NESTING reader context depth rest.now) }
     ensures height { IfOk result (λ x. x.1 ≡ nest (expr_view x.0)) }
     ensures fits { IfOk result (λ x. depth + x.1 ≤ MOST_NESTING) }
     ensures shorter { IfOk result (λ x. length x.2.now < length rest.now) }
@@ -321,7 +343,7 @@ pub fn expression_goal(
     depth: u32,
 ) -> Read<'_, Expr>
     requires limit { depth ≤ MOST_NESTING }
-    ensures gives { Gives (λ x. (expr_view x.0, x.2.now)) result (spec.read MOST_NESTING (spec.Goal.expression context) depth rest.now) }
+    ensures gives { Gives (λ x. (expr_view x.0, x.2.now)) result (reader (spec.Goal.expression context) depth rest.now) }
     ensures height { IfOk result (λ x. x.1 ≡ nest (expr_view x.0)) }
     ensures fits { IfOk result (λ x. depth + x.1 ≤ MOST_NESTING) }
     ensures shorter { IfOk result (λ x. length x.2.now < length rest.now) }

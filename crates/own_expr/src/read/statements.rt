@@ -5,12 +5,13 @@ ghost use Rattle.own_tree.specs.View.{expr_view, stmt_view, block_view};
 ghost use Rattle.own_grammar.specs.Nesting.{nest, nest_stm, nest_blk};
 ghost use Rattle.own_grammar.specs.Reading as spec;
 ghost use Rattle.own_expr.specs.Gives.{Gives};
+ghost use Rattle.own_expr.specs.Reads.{reader};
 
 use super::Read;
 use super::blocks::body_goal;
 use super::clauses::clauses_goal;
 use super::expressions::{expression_goal, expression_of};
-use crate::fault::ReadError;
+use crate::fault::{ReadError, without};
 use crate::lines::{assigns, is_bare};
 use crate::makers::{else_if, if_else, if_then};
 use crate::next::{after, binder_at, here, is_mark, is_word, keyword_at, till};
@@ -36,7 +37,7 @@ fn bound_of<'a>(
     depth: u32,
 ) -> Read<'a, Stmt>
     requires limit { depth < MOST_NESTING }
-    ensures gives { Gives (λ x. (stmt_view x.0, x.2.now)) result (spec.bound_with (spec.read MOST_NESTING) depth from.now keyword name written rest.now) }
+    ensures gives { Gives (λ x. (stmt_view x.0, x.2.now)) result (spec.bound_with reader depth from.now keyword name written rest.now) }
     ensures height { IfOk result (λ x. x.1 ≡ nest_stm (stmt_view x.0)) }
     ensures fits { IfOk result (λ x. depth + x.1 ≤ MOST_NESTING) }
     ensures shorter { IfOk result (λ x. length x.2.now ≤ length rest.now) }
@@ -55,7 +56,7 @@ fn bound_of<'a>(
 fn let_of(alloc: Global, rest: &[Token], keyword: Keyword, depth: u32) -> Read<'_, Stmt>
     requires limit { depth < MOST_NESTING }
     requires some { 0 < length rest.now }
-    ensures gives { Gives (λ x. (stmt_view x.0, x.2.now)) result (spec.let_with (spec.read MOST_NESTING) depth rest.now keyword) }
+    ensures gives { Gives (λ x. (stmt_view x.0, x.2.now)) result (spec.let_with reader depth rest.now keyword) }
     ensures height { IfOk result (λ x. x.1 ≡ nest_stm (stmt_view x.0)) }
     ensures fits { IfOk result (λ x. depth + x.1 ≤ MOST_NESTING) }
     ensures shorter { IfOk result (λ x. length x.2.now < length rest.now) }
@@ -74,7 +75,7 @@ fn let_of(alloc: Global, rest: &[Token], keyword: Keyword, depth: u32) -> Read<'
 fn ignore_of(alloc: Global, rest: &[Token], depth: u32) -> Read<'_, Stmt>
     requires limit { depth < MOST_NESTING }
     requires some { 0 < length rest.now }
-    ensures gives { Gives (λ x. (stmt_view x.0, x.2.now)) result (spec.ignore_with (spec.read MOST_NESTING) depth rest.now) }
+    ensures gives { Gives (λ x. (stmt_view x.0, x.2.now)) result (spec.ignore_with reader depth rest.now) }
     ensures height { IfOk result (λ x. x.1 ≡ nest_stm (stmt_view x.0)) }
     ensures fits { IfOk result (λ x. depth + x.1 ≤ MOST_NESTING) }
     ensures shorter { IfOk result (λ x. length x.2.now < length rest.now) }
@@ -106,7 +107,7 @@ fn else_of<'a>(
     requires condition_fits { depth + height < MOST_NESTING }
     requires block { block_height ≡ nest_blk (block_view block) }
     requires block_fits { depth + block_height < MOST_NESTING }
-    ensures gives { Gives (λ x. (stmt_view x.0, x.2.now)) result (spec.else_with (spec.read MOST_NESTING) depth from.now (expr_view condition) (block_view block) rest.now) }
+    ensures gives { Gives (λ x. (stmt_view x.0, x.2.now)) result (spec.else_with reader depth from.now (expr_view condition) (block_view block) rest.now) }
     ensures height { IfOk result (λ x. x.1 ≡ nest_stm (stmt_view x.0)) }
     ensures fits { IfOk result (λ x. depth + x.1 ≤ MOST_NESTING) }
     ensures shorter { IfOk result (λ x. length x.2.now ≤ length rest.now) }
@@ -117,7 +118,10 @@ fn else_of<'a>(
     }
     let more = after(rest);
     if is_word(Word::If, more) {
-        let (other, other_height, last) = statement_goal(alloc, more, depth + 1)?;
+        let (other, other_height, last) = match statement_goal(alloc, more, depth + 1) {
+            Ok(other) => other,
+            Err(fault) => return Err(without(condition, fault)),
+        };
         let statement = else_if(alloc, here(from), condition, block, other)?;
         return Ok((
             statement,
@@ -125,7 +129,10 @@ fn else_of<'a>(
             last,
         ));
     }
-    let (other, other_height, last) = body_goal(alloc, more, depth + 1)?;
+    let (other, other_height, last) = match body_goal(alloc, more, depth + 1) {
+        Ok(other) => other,
+        Err(fault) => return Err(without(condition, fault)),
+    };
     let statement = if_else(here(from), condition, block, other);
     Ok((
         statement,
@@ -139,7 +146,7 @@ fn else_of<'a>(
 fn if_of(alloc: Global, rest: &[Token], depth: u32) -> Read<'_, Stmt>
     requires limit { depth < MOST_NESTING }
     requires some { 0 < length rest.now }
-    ensures gives { Gives (λ x. (stmt_view x.0, x.2.now)) result (spec.if_with (spec.read MOST_NESTING) depth rest.now) }
+    ensures gives { Gives (λ x. (stmt_view x.0, x.2.now)) result (spec.if_with reader depth rest.now) }
     ensures height { IfOk result (λ x. x.1 ≡ nest_stm (stmt_view x.0)) }
     ensures fits { IfOk result (λ x. depth + x.1 ≤ MOST_NESTING) }
     ensures shorter { IfOk result (λ x. length x.2.now < length rest.now) }
@@ -150,7 +157,10 @@ fn if_of(alloc: Global, rest: &[Token], depth: u32) -> Read<'_, Stmt>
         Context::Condition,
         depth + 1,
     )?;
-    let (block, block_height, last) = body_goal(alloc, more, depth + 1)?;
+    let (block, block_height, last) = match body_goal(alloc, more, depth + 1) {
+        Ok(block) => block,
+        Err(fault) => return Err(without(condition, fault)),
+    };
     else_of(
         alloc,
         last,
@@ -168,7 +178,7 @@ fn if_of(alloc: Global, rest: &[Token], depth: u32) -> Read<'_, Stmt>
 fn while_of(alloc: Global, rest: &[Token], depth: u32) -> Read<'_, Stmt>
     requires limit { depth < MOST_NESTING }
     requires some { 0 < length rest.now }
-    ensures gives { Gives (λ x. (stmt_view x.0, x.2.now)) result (spec.while_with (spec.read MOST_NESTING) depth rest.now) }
+    ensures gives { Gives (λ x. (stmt_view x.0, x.2.now)) result (spec.while_with reader depth rest.now) }
     ensures height { IfOk result (λ x. x.1 ≡ nest_stm (stmt_view x.0)) }
     ensures fits { IfOk result (λ x. depth + x.1 ≤ MOST_NESTING) }
     ensures shorter { IfOk result (λ x. length x.2.now < length rest.now) }
@@ -179,7 +189,10 @@ fn while_of(alloc: Global, rest: &[Token], depth: u32) -> Read<'_, Stmt>
         Context::Condition,
         depth + 1,
     )?;
-    let (block, block_height, last) = body_goal(alloc, more, depth + 1)?;
+    let (block, block_height, last) = match body_goal(alloc, more, depth + 1) {
+        Ok(block) => block,
+        Err(fault) => return Err(without(condition, fault)),
+    };
     let span = till(here(rest), block.span);
     Ok((
         Stmt::While(span, condition, block),
@@ -193,7 +206,7 @@ fn while_of(alloc: Global, rest: &[Token], depth: u32) -> Read<'_, Stmt>
 fn repeat_of(alloc: Global, rest: &[Token], depth: u32) -> Read<'_, Stmt>
     requires limit { depth < MOST_NESTING }
     requires some { 0 < length rest.now }
-    ensures gives { Gives (λ x. (stmt_view x.0, x.2.now)) result (spec.repeat_with (spec.read MOST_NESTING) depth rest.now) }
+    ensures gives { Gives (λ x. (stmt_view x.0, x.2.now)) result (spec.repeat_with reader depth rest.now) }
     ensures height { IfOk result (λ x. x.1 ≡ nest_stm (stmt_view x.0)) }
     ensures fits { IfOk result (λ x. depth + x.1 ≤ MOST_NESTING) }
     ensures shorter { IfOk result (λ x. length x.2.now < length rest.now) }
@@ -233,18 +246,24 @@ fn upper_of<'a>(
     requires low { height ≡ nest (expr_view low) }
     requires low_fits { depth + height < MOST_NESTING }
     requires some { 0 < length rest.now }
-    ensures gives { Gives (λ x. (stmt_view x.0, x.2.now)) result (spec.upper_with (spec.read MOST_NESTING) depth from.now name (expr_view low) operator rest.now) }
+    ensures gives { Gives (λ x. (stmt_view x.0, x.2.now)) result (spec.upper_with reader depth from.now name (expr_view low) operator rest.now) }
     ensures height { IfOk result (λ x. x.1 ≡ nest_stm (stmt_view x.0)) }
     ensures fits { IfOk result (λ x. depth + x.1 ≤ MOST_NESTING) }
     ensures shorter { IfOk result (λ x. length x.2.now ≤ length rest.now) }
 {
-    let (high, high_height, more) = expression_goal(
+    let (high, high_height, more) = match expression_goal(
         alloc,
         after(rest),
         Context::Condition,
         depth + 1,
-    )?;
-    let (block, block_height, last) = body_goal(alloc, more, depth + 1)?;
+    ) {
+        Ok(high) => high,
+        Err(fault) => return Err(without(low, fault)),
+    };
+    let (block, block_height, last) = match body_goal(alloc, more, depth + 1) {
+        Ok(block) => block,
+        Err(fault) => return Err(without(low, without(high, fault))),
+    };
     let span = till(here(from), block.span);
     let statement = Stmt::For(span, name, low, operator, here(rest), high, block);
     Ok((
@@ -265,7 +284,7 @@ fn lower_of<'a>(
     depth: u32,
 ) -> Read<'a, Stmt>
     requires limit { depth < MOST_NESTING }
-    ensures gives { Gives (λ x. (stmt_view x.0, x.2.now)) result (spec.lower_with (spec.read MOST_NESTING) depth from.now name rest.now) }
+    ensures gives { Gives (λ x. (stmt_view x.0, x.2.now)) result (spec.lower_with reader depth from.now name rest.now) }
     ensures height { IfOk result (λ x. x.1 ≡ nest_stm (stmt_view x.0)) }
     ensures fits { IfOk result (λ x. depth + x.1 ≤ MOST_NESTING) }
     ensures shorter { IfOk result (λ x. length x.2.now ≤ length rest.now) }
@@ -274,7 +293,7 @@ fn lower_of<'a>(
     if let Some(operator) = range_at(more) {
         return upper_of(alloc, more, from, name, low, height, operator, depth);
     }
-    Err(ReadError::Syntax(more.len()))
+    Err(without(low, ReadError::Syntax(more.len())))
 }
 
 #[cycle(parse)]
@@ -282,7 +301,7 @@ fn lower_of<'a>(
 fn for_of(alloc: Global, rest: &[Token], depth: u32) -> Read<'_, Stmt>
     requires limit { depth < MOST_NESTING }
     requires some { 0 < length rest.now }
-    ensures gives { Gives (λ x. (stmt_view x.0, x.2.now)) result (spec.for_with (spec.read MOST_NESTING) depth rest.now) }
+    ensures gives { Gives (λ x. (stmt_view x.0, x.2.now)) result (spec.for_with reader depth rest.now) }
     ensures height { IfOk result (λ x. x.1 ≡ nest_stm (stmt_view x.0)) }
     ensures fits { IfOk result (λ x. depth + x.1 ≤ MOST_NESTING) }
     ensures shorter { IfOk result (λ x. length x.2.now < length rest.now) }
@@ -303,7 +322,7 @@ fn for_of(alloc: Global, rest: &[Token], depth: u32) -> Read<'_, Stmt>
 fn switch_of(alloc: Global, rest: &[Token], depth: u32) -> Read<'_, Stmt>
     requires limit { depth < MOST_NESTING }
     requires some { 0 < length rest.now }
-    ensures gives { Gives (λ x. (stmt_view x.0, x.2.now)) result (spec.switch_with (spec.read MOST_NESTING) depth rest.now) }
+    ensures gives { Gives (λ x. (stmt_view x.0, x.2.now)) result (spec.switch_with reader depth rest.now) }
     ensures height { IfOk result (λ x. x.1 ≡ nest_stm (stmt_view x.0)) }
     ensures fits { IfOk result (λ x. depth + x.1 ≤ MOST_NESTING) }
     ensures shorter { IfOk result (λ x. length x.2.now < length rest.now) }
@@ -315,9 +334,12 @@ fn switch_of(alloc: Global, rest: &[Token], depth: u32) -> Read<'_, Stmt>
         depth + 1,
     )?;
     if !is_mark(Mark::OpenBrace, more) {
-        return Err(ReadError::Syntax(more.len()));
+        return Err(without(subject, ReadError::Syntax(more.len())));
     }
-    let (clauses, clauses_height, last) = clauses_goal(alloc, after(more), depth + 1)?;
+    let (clauses, clauses_height, last) = match clauses_goal(alloc, after(more), depth + 1) {
+        Ok(clauses) => clauses,
+        Err(fault) => return Err(without(subject, fault)),
+    };
     let span = till(here(rest), here(last));
     Ok((
         Stmt::Switch(span, subject, clauses),
@@ -331,7 +353,7 @@ fn switch_of(alloc: Global, rest: &[Token], depth: u32) -> Read<'_, Stmt>
 fn return_of(alloc: Global, rest: &[Token], depth: u32) -> Read<'_, Stmt>
     requires limit { depth < MOST_NESTING }
     requires some { 0 < length rest.now }
-    ensures gives { Gives (λ x. (stmt_view x.0, x.2.now)) result (spec.return_with (spec.read MOST_NESTING) depth rest.now) }
+    ensures gives { Gives (λ x. (stmt_view x.0, x.2.now)) result (spec.return_with reader depth rest.now) }
     ensures height { IfOk result (λ x. x.1 ≡ nest_stm (stmt_view x.0)) }
     ensures fits { IfOk result (λ x. depth + x.1 ≤ MOST_NESTING) }
     ensures shorter { IfOk result (λ x. length x.2.now < length rest.now) }
@@ -360,7 +382,7 @@ fn assign_of(
     requires left { height ≡ nest (expr_view left) }
     requires left_fits { depth + height < MOST_NESTING }
     requires some { 0 < length rest.now }
-    ensures gives { Gives (λ x. (stmt_view x.0, x.2.now)) result (spec.assign_with (spec.read MOST_NESTING) depth (expr_view left) rest.now operator) }
+    ensures gives { Gives (λ x. (stmt_view x.0, x.2.now)) result (spec.assign_with reader depth (expr_view left) rest.now operator) }
     ensures height { IfOk result (λ x. x.1 ≡ nest_stm (stmt_view x.0)) }
     ensures fits { IfOk result (λ x. depth + x.1 ≤ MOST_NESTING) }
     ensures shorter { IfOk result (λ x. length x.2.now ≤ length rest.now) }
@@ -386,7 +408,7 @@ fn assign_of(
 #[tactic(auto, unfolding(own_grammar::specs::Reading::evaluate_with))]
 fn evaluate_of(alloc: Global, rest: &[Token], depth: u32) -> Read<'_, Stmt>
     requires limit { depth < MOST_NESTING }
-    ensures gives { Gives (λ x. (stmt_view x.0, x.2.now)) result (spec.evaluate_with MOST_NESTING (spec.read MOST_NESTING) depth rest.now) }
+    ensures gives { Gives (λ x. (stmt_view x.0, x.2.now)) result (spec.evaluate_with MOST_NESTING reader depth rest.now) }
     ensures height { IfOk result (λ x. x.1 ≡ nest_stm (stmt_view x.0)) }
     ensures fits { IfOk result (λ x. depth + x.1 ≤ MOST_NESTING) }
     ensures shorter { IfOk result (λ x. length x.2.now < length rest.now) }
@@ -403,7 +425,7 @@ fn evaluate_of(alloc: Global, rest: &[Token], depth: u32) -> Read<'_, Stmt>
 #[tactic(auto, unfolding(own_grammar::specs::Reading::simple_with))]
 fn simple_of(alloc: Global, rest: &[Token], depth: u32) -> Read<'_, Stmt>
     requires limit { depth < MOST_NESTING }
-    ensures gives { Gives (λ x. (stmt_view x.0, x.2.now)) result (spec.simple_with MOST_NESTING (spec.read MOST_NESTING) depth rest.now) }
+    ensures gives { Gives (λ x. (stmt_view x.0, x.2.now)) result (spec.simple_with MOST_NESTING reader depth rest.now) }
     ensures height { IfOk result (λ x. x.1 ≡ nest_stm (stmt_view x.0)) }
     ensures fits { IfOk result (λ x. depth + x.1 ≤ MOST_NESTING) }
     ensures shorter { IfOk result (λ x. length x.2.now < length rest.now) }
@@ -430,7 +452,7 @@ fn simple_of(alloc: Global, rest: &[Token], depth: u32) -> Read<'_, Stmt>
 #[tactic(auto, unfolding(own_grammar::specs::Reading::statement_with))]
 pub fn statement_of(alloc: Global, rest: &[Token], depth: u32) -> Read<'_, Stmt>
     requires limit { depth ≤ MOST_NESTING }
-    ensures gives { Gives (λ x. (stmt_view x.0, x.2.now)) result (spec.statement_with MOST_NESTING (spec.read MOST_NESTING) depth rest.now) }
+    ensures gives { Gives (λ x. (stmt_view x.0, x.2.now)) result (spec.statement_with MOST_NESTING reader depth rest.now) }
     ensures height { IfOk result (λ x. x.1 ≡ nest_stm (stmt_view x.0)) }
     ensures fits { IfOk result (λ x. depth + x.1 ≤ MOST_NESTING) }
     ensures shorter { IfOk result (λ x. length x.2.now < length rest.now) }
@@ -462,7 +484,7 @@ pub fn statement_of(alloc: Global, rest: &[Token], depth: u32) -> Read<'_, Stmt>
 #[cycle(parse)]
 fn statement_goal(alloc: Global, rest: &[Token], depth: u32) -> Read<'_, Stmt>
     requires limit { depth ≤ MOST_NESTING }
-    ensures gives { Gives (λ x. (stmt_view x.0, x.2.now)) result (spec.read MOST_NESTING spec.Goal.statement depth rest.now) }
+    ensures gives { Gives (λ x. (stmt_view x.0, x.2.now)) result (reader spec.Goal.statement depth rest.now) }
     ensures height { IfOk result (λ x. x.1 ≡ nest_stm (stmt_view x.0)) }
     ensures fits { IfOk result (λ x. depth + x.1 ≤ MOST_NESTING) }
     ensures shorter { IfOk result (λ x. length x.2.now < length rest.now) }

@@ -79,7 +79,12 @@ impl<'m> State<'m> {
             }
             Instr::If(handed, first, second) => match self.pop32() {
                 Some(number) => {
-                    self.enter_side(number, *handed, first.as_slice(), second.as_slice());
+                    self.enter_side(
+                        number,
+                        *handed,
+                        first.get().as_slice(),
+                        second.get().as_slice(),
+                    );
                     Went::On
                 }
                 None => Went::Stuck,
@@ -91,7 +96,11 @@ impl<'m> State<'m> {
                 None => Went::Stuck,
             },
             Instr::BrTable(labels, default) => match self.pop32() {
-                Some(number) => self.branch(Some(chosen(labels.as_slice(), *default, number))),
+                Some(number) => self.branch(Some(chosen(
+                    labels.get().as_slice(),
+                    *default,
+                    number,
+                ))),
                 None => Went::Stuck,
             },
             Instr::Return => self.branch(None),

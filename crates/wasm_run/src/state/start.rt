@@ -5,9 +5,9 @@ ghost use Rattle.wasm_form.specs.Within.{IsWithin, count_locals, ElementIsWithin
 
 use crate::state::calls::add_zeros;
 use crate::state::memory::overwrite;
-use crate::state::{Layer, MOST_LAYERS, MOST_LOCALS, MOST_VALUES, State};
+use crate::state::{Layer, MOST_LAYERS, MOST_LOCALS_HELD, MOST_VALUES, State};
 use std::alloc::{AllocError, Global};
-use wasm_form::limits::PAGE;
+use wasm_form::limits::{MOST_LOCALS, PAGE};
 use wasm_form::{
     CodeEntry, DataSegment, ElementSegment, Export, ExportKind, GlobalEntry, Limits, Module, Value,
 };
@@ -22,7 +22,7 @@ impl<'m> State<'m> {
         input: &'m [i64],
     ) -> Result<State<'m>, AllocError>
         requires within { IsWithin «module».now }
-        requires locals { count_locals main.now.locals ≤ 4400 }
+        requires locals { count_locals main.now.locals ≤ MOST_LOCALS }
         ensures { IfOk result (λ state. state ≡ started «module».now main.now input.now) }
     {
         let mut layers = Vec::with_capacity(alloc, MOST_LAYERS)?;
@@ -35,7 +35,7 @@ impl<'m> State<'m> {
             locals: 0,
             depth: 0,
         });
-        let mut locals = Vec::with_capacity(alloc, MOST_LOCALS)?;
+        let mut locals = Vec::with_capacity(alloc, MOST_LOCALS_HELD)?;
         add_zeros(&mut locals, main.locals.as_slice());
         let values = Vec::with_capacity(alloc, MOST_VALUES)?;
         let globals = first_globals(alloc, module.globals.as_slice())?;

@@ -1,12 +1,13 @@
 use Rattle.std.proofs.Common.{length}
 use Rattle.own_tree.specs.declared.limits.TheConstants.{MOST_NESTING}
+use Rattle.own_grammar.specs.declared.limits.TheConstants.{MOST_PATTERN_LEVELS}
 use Rattle.own_tree.specs.View.{declaration_view}
 use Rattle.own_grammar.specs.ReadingFile.{is_main, declaration_with}
 use Rattle.own_decl.proofs.ListSteps.{SeparatedOn}
 use Rattle.own_decl.proofs.declarations.declarations_of.Given as goal
 
 abbrev pub invariant-loop-alloc : goal.invariant-loop-alloc
-invariant-loop-alloc l = SeparatedOn declaration_view is_main (declaration_with MOST_NESTING) l.fn.rest l.found l.left
+invariant-loop-alloc l = SeparatedOn declaration_view is_main (declaration_with MOST_NESTING MOST_PATTERN_LEVELS) l.fn.rest l.found l.left
 
 abbrev pub decreases-loop-alloc : goal.decreases-loop-alloc
 decreases-loop-alloc l = length l.left

@@ -11,12 +11,12 @@ pub returns-in-Ok-clause-one : goal.returns-in-Ok-clause-one
 returns-in-Ok-clause-one c = rw c.place-next.ensures (stands c.args.tokens.now c.args.from c.args.depth (block_view c.in-Ok.block) c.in-Ok.more.now (rw c.tokens_from-rest.ensures at c.in-Ok.ensures.gives)).only
 
 pub returns-in-Ok-clause-only : goal.returns-in-Ok-clause-only
-returns-in-Ok-clause-only c = λ b to sp fit. again c.args.tokens.now c.args.from c.args.depth (block_view c.in-Ok.block) b c.in-Ok.more.now to (rw c.tokens_from-rest.ensures at c.in-Ok.ensures.gives) sp fit
+returns-in-Ok-clause-only c = λ b to sp fit few. again c.args.tokens.now c.args.from c.args.depth (block_view c.in-Ok.block) b c.in-Ok.more.now to (rw c.tokens_from-rest.ensures at c.in-Ok.ensures.gives) sp fit few
 
 pub returns-in-Err-Syntax-clause-only : goal.returns-in-Err-Syntax-clause-only
 returns-in-Err-Syntax-clause-only c =
     let e = rw (c.in-Err-Syntax.field-0-is, c.tokens_from-rest.ensures) at c.in-Err-Syntax.ensures.gives in
-    λ b to sp fit. not_refused c.args.tokens.now c.args.from c.args.depth b to (Syntax c.in-Err-Syntax.left) e sp fit
+    λ b to sp fit few. not_refused c.args.tokens.now c.args.from c.args.depth b to (Syntax c.in-Err-Syntax.left) e sp fit few
 
 pub returns-in-Err-Syntax-clause-syntax : goal.returns-in-Err-Syntax-clause-syntax
 returns-in-Err-Syntax-clause-syntax c =
@@ -26,7 +26,7 @@ returns-in-Err-Syntax-clause-syntax c =
 pub returns-in-Err-Depth-clause-only : goal.returns-in-Err-Depth-clause-only
 returns-in-Err-Depth-clause-only c =
     let e = rw (c.in-Err-Depth.field-0-is, c.tokens_from-rest.ensures) at c.in-Err-Depth.ensures.gives in
-    λ b to sp fit. not_refused c.args.tokens.now c.args.from c.args.depth b to (Depth c.in-Err-Depth.left) e sp fit
+    λ b to sp fit few. not_refused c.args.tokens.now c.args.from c.args.depth b to (Depth c.in-Err-Depth.left) e sp fit few
 
 pub returns-in-Err-Depth-clause-deep : goal.returns-in-Err-Depth-clause-deep
 returns-in-Err-Depth-clause-deep c =

@@ -1,5 +1,5 @@
 use Rattle.std.proofs.Common.{◌+◌, ◌*◌, length}
-use Rattle.own_tree.specs.declared.limits.TheConstants.{MOST_NESTING}
+use Rattle.own_grammar.specs.declared.limits.TheConstants.{MOST_PATTERN_LEVELS}
 use Rattle.own_expr.proofs.LetPatternList.{ListOn}
 use Rattle.own_expr.proofs.let_patterns.+let_patterns.Given as goal
 
@@ -19,7 +19,7 @@ abbrev pub decreases-let_patterns_of : goal.decreases-let_patterns_of
 decreases-let_patterns_of l = 8 * length l.rest.now + 3
 
 abbrev pub invariant-let_pattern_list-loop-found : goal.invariant-let_pattern_list-loop-found
-invariant-let_pattern_list-loop-found l = ListOn MOST_NESTING l.depth l.fn.rest l.found l.height l.left
+invariant-let_pattern_list-loop-found l = ListOn MOST_PATTERN_LEVELS l.level l.fn.rest l.found l.left
 
 abbrev pub decreases-let_pattern_list-loop-found : goal.decreases-let_pattern_list-loop-found
 decreases-let_pattern_list-loop-found l = length l.left

@@ -1,28 +1,19 @@
 use Rattle.std.proofs.Common.{sym, ◌∙◌, arith}
 use Rattle.std.proofs.lemmas.Result.{err_from_is_err_and}
-use Rattle.own_tree.specs.declared.limits.TheConstants.{MOST_NESTING}
-use Rattle.own_expr.proofs.PatternList.{case_nest, go, stop, fail, high_more}
+use Rattle.own_grammar.specs.declared.limits.TheConstants.{MOST_PATTERN_LEVELS}
+use Rattle.own_expr.proofs.PatternList.{go, stop, fail}
 use Rattle.own_expr.proofs.patterns.+patterns.Goals as goal
 
 pub pattern_list-returns-in_err-pattern-clause-gives : goal.pattern_list-returns-in_err-pattern-clause-gives
 pattern_list-returns-in_err-pattern-clause-gives t c =
     let p = err_from_is_err_and c.from_residual.result c.from_residual.ensures.1 in
-    rw (p.1, p.2) (fail c.in_err-pattern.field-0.0 MOST_NESTING c.args.depth c.args.rest.now c.loop-found.found c.loop-found.height c.loop-found.left.now c.in_err-pattern.ensures.gives c.loop-found.invariant)
+    rw (p.1, p.2) (fail c.in_err-pattern.field-0.0 MOST_PATTERN_LEVELS c.args.level c.args.rest.now c.loop-found.found c.loop-found.left.now c.in_err-pattern.ensures.gives c.loop-found.invariant)
 
 pub pattern_list-returns-then-not-is_mark-clause-gives : goal.pattern_list-returns-then-not-is_mark-clause-gives
 pattern_list-returns-then-not-is_mark-clause-gives t c =
-    rw c.in_ok-push.ensures.ok (stop MOST_NESTING c.args.depth c.args.rest.now c.loop-found.found c.loop-found.height c.loop-found.left.now c.in_ok-pattern.pattern c.in_ok-pattern.more.now c.in_ok-pattern.ensures.gives (sym c.is_mark.ensures.value ∙ c.if-not-is_mark.true) c.loop-found.invariant)
-
-pub pattern_list-returns-then-not-is_mark-clause-height : goal.pattern_list-returns-then-not-is_mark-clause-height
-pattern_list-returns-then-not-is_mark-clause-height t c =
-    rw (c.in_ok-push.ensures.ok, c.larger-height.ensures) (high_more c.loop-found.found c.loop-found.height c.in_ok-pattern.pattern c.in_ok-pattern.more_height c.loop-found.invariant.high c.in_ok-pattern.ensures.height)
+    rw c.in_ok-push.ensures.ok (stop MOST_PATTERN_LEVELS c.args.level c.args.rest.now c.loop-found.found c.loop-found.left.now c.in_ok-pattern.pattern c.in_ok-pattern.more.now c.in_ok-pattern.ensures.gives (sym c.is_mark.ensures.value ∙ c.if-not-is_mark.true) c.loop-found.invariant)
 
 pub pattern_list-loop-found-preserved : goal.pattern_list-loop-found-preserved
 pattern_list-loop-found-preserved t c =
-    rw (c.in_ok-push.ensures.ok, c.larger-height.ensures) (go MOST_NESTING c.args.depth c.args.rest.now c.loop-found.found c.loop-found.height c.loop-found.left.now c.in_ok-pattern.pattern c.in_ok-pattern.more_height c.in_ok-pattern.more.now c.after-left.result.now
-    c.in_ok-pattern.ensures.gives (sym c.is_mark.ensures.value ∙ c.if-not-is_mark.false) c.after-left.ensures.value c.in_ok-pattern.ensures.height c.in_ok-pattern.ensures.fits (omega (arith, c.after-left.ensures.within, c.in_ok-pattern.ensures.shorter)) c.loop-found.invariant)
-
-pub parts_of-returns-clause-height : goal.parts_of-returns-clause-height
-parts_of-returns-clause-height t c =
-    let high = c.in_ok-parts.ensures.height in
-    rw c.on_case.ensures (omega (arith, high, case_nest c.till-span.result c.args.name c.in_ok-parts.parts c.in_ok-parts.ensures.some))
+    rw c.in_ok-push.ensures.ok (go MOST_PATTERN_LEVELS c.args.level c.args.rest.now c.loop-found.found c.loop-found.left.now c.in_ok-pattern.pattern c.in_ok-pattern.more.now c.after-left.result.now
+    c.in_ok-pattern.ensures.gives (sym c.is_mark.ensures.value ∙ c.if-not-is_mark.false) c.after-left.ensures.value (omega (arith, c.after-left.ensures.within, c.in_ok-pattern.ensures.shorter)) c.loop-found.invariant)

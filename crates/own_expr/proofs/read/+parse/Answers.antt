@@ -1,31 +1,30 @@
 use Rattle.std.proofs.Common.{◌<◌, map, refl, sym, ◌∙◌, arith}
 use Rattle.std.proofs.lemmas.List.{length-map}
 use Rattle.std.proofs.lemmas.Result.{err_from_is_err_and}
-use Rattle.own_tree.specs.declared.limits.TheConstants.{MOST_NESTING}
 use Rattle.own_tree.specs.View.{expr_view, pattern_view}
-use Rattle.own_grammar.specs.Reading.{read}
+use Rattle.own_expr.specs.Reads.{reader}
 use Rattle.own_expr.proofs.Opens.{expression_is, operand_is, operators_is, calls_is, statement_is, body_is, parenthesized_is, level_zero, level_up, level_fail, where_none, where_one, where_many, where_fail, arguments_high, arguments_go, arguments_end, arguments_fail, statements_go, statements_end, statements_fail, statements_high, clause_go, clause_end, clause_fail, clauses_go, clauses_end, clauses_fail}
 use Rattle.own_expr.proofs.read.+parse.Goals as goal
 
 pub expressions::primary_of-returns-then-is_mark-clause-gives : goal.expressions::primary_of-returns-then-is_mark-clause-gives
-expressions::primary_of-returns-then-is_mark-clause-gives t c = rw (parenthesized_is (read MOST_NESTING) c.args.tight c.args.depth c.args.rest.now (sym c.is_mark.ensures.value ∙ c.if-is_mark.true)) c.parenthesized_of.ensures.gives
+expressions::primary_of-returns-then-is_mark-clause-gives t c = rw (parenthesized_is reader c.args.tight c.args.depth c.args.rest.now (sym c.is_mark.ensures.value ∙ c.if-is_mark.true)) c.parenthesized_of.ensures.gives
 
 pub expressions::operand_goal-returns-clause-gives : goal.expressions::operand_goal-returns-clause-gives
 expressions::operand_goal-returns-clause-gives t c = rw (operand_is c.args.context c.args.depth c.args.rest.now) c.pre_of.ensures.gives
 
 pub expressions::level_of-returns-then-j-eq0-clause-gives : goal.expressions::level_of-returns-then-j-eq0-clause-gives
-expressions::level_of-returns-then-j-eq0-clause-gives t c = rw (level_zero (read MOST_NESTING) c.args.j c.args.context c.args.depth c.args.rest.now (omega (arith, c.if-j-eq0.true))) c.pre_of.ensures.gives
+expressions::level_of-returns-then-j-eq0-clause-gives t c = rw (level_zero reader c.args.j c.args.context c.args.depth c.args.rest.now (omega (arith, c.if-j-eq0.true))) c.pre_of.ensures.gives
 
 pub expressions::level_of-returns-in_err-e-clause-gives : goal.expressions::level_of-returns-in_err-e-clause-gives
 expressions::level_of-returns-in_err-e-clause-gives t c =
     let p = err_from_is_err_and c.from_residual.result c.from_residual.ensures.1 in
     let lt : 0 < c.args.j = omega (arith, c.if-j-eq0.false) in
-    rw (p.1, p.2) (level_fail c.in_err-e.field-0.0 (read MOST_NESTING) c.args.j c.args.context c.args.depth c.args.rest.now lt c.in_err-e.ensures.gives)
+    rw (p.1, p.2) (level_fail c.in_err-e.field-0.0 reader c.args.j c.args.context c.args.depth c.args.rest.now lt c.in_err-e.ensures.gives)
 
 pub expressions::level_of-returns-clause-gives : goal.expressions::level_of-returns-clause-gives
 expressions::level_of-returns-clause-gives t c =
     let lt : 0 < c.args.j = omega (arith, c.if-j-eq0.false) in
-    rw (level_up (read MOST_NESTING) c.args.j c.args.context c.args.depth c.args.rest.now lt, c.in_ok-e.ensures.gives) c.operators_goal.ensures.gives
+    rw (level_up reader c.args.j c.args.context c.args.depth c.args.rest.now lt, c.in_ok-e.ensures.gives) c.operators_goal.ensures.gives
 
 pub expressions::operators_goal-returns-clause-gives : goal.expressions::operators_goal-returns-clause-gives
 expressions::operators_goal-returns-clause-gives t c = rw (operators_is c.args.j c.args.context (expr_view c.args.left) c.args.depth c.args.rest.now) c.operators_of.ensures.gives
@@ -92,20 +91,20 @@ clauses::clause_goal-loop-found-preserved t c =
     c.in_ok-statement.ensures.gives (sym c.ends_clause.ensures ∙ c.if-ends_clause.false) c.in_ok-statement.ensures.height c.in_ok-statement.ensures.fits c.in_ok-statement.ensures.shorter c.loop-found.invariant)
 
 pub clauses::where_of-returns-then-not-is_word-clause-gives : goal.clauses::where_of-returns-then-not-is_word-clause-gives
-clauses::where_of-returns-then-not-is_word-clause-gives t c = rw c.case_head.ensures (where_none (read MOST_NESTING) c.args.depth (map pattern_view c.args.patterns) c.args.rest.now (sym c.is_word.ensures.value ∙ c.if-not-is_word.true))
+clauses::where_of-returns-then-not-is_word-clause-gives t c = rw c.case_head.ensures (where_none reader c.args.depth (map pattern_view c.args.patterns) c.args.rest.now (sym c.is_word.ensures.value ∙ c.if-not-is_word.true))
 
 pub clauses::where_of-returns-in_err-guard-in-Ok-clause-gives : goal.clauses::where_of-returns-in_err-guard-in-Ok-clause-gives
 clauses::where_of-returns-in_err-guard-in-Ok-clause-gives t c =
     let p = err_from_is_err_and c.from_residual.result c.from_residual.ensures.1 in
-    rw (p.1, p.2, c.in-Ok.ensures.one) (where_fail c.in_err-guard-in-Ok.field-0.0 (read MOST_NESTING) c.args.depth (pattern_view c.in-Ok.pattern) c.args.rest.now (sym c.is_word.ensures.value ∙ c.if-not-is_word.false) (rw (← c.after-start.ensures.value) c.in_err-guard-in-Ok.ensures.gives))
+    rw (p.1, p.2, c.in-Ok.ensures.one) (where_fail c.in_err-guard-in-Ok.field-0.0 reader c.args.depth (pattern_view c.in-Ok.pattern) c.args.rest.now (sym c.is_word.ensures.value ∙ c.if-not-is_word.false) (rw (← c.after-start.ensures.value) c.in_err-guard-in-Ok.ensures.gives))
 
 pub clauses::where_of-returns-in_ok-guard-in-Ok-clause-gives : goal.clauses::where_of-returns-in_ok-guard-in-Ok-clause-gives
 clauses::where_of-returns-in_ok-guard-in-Ok-clause-gives t c =
-    rw (c.guarded_head-head.ensures, c.in-Ok.ensures.one) (where_one (read MOST_NESTING) c.args.depth (pattern_view c.in-Ok.pattern) c.args.rest.now (sym c.is_word.ensures.value ∙ c.if-not-is_word.false) ∙ rw (← c.after-start.ensures.value, c.in_ok-guard-in-Ok.ensures.gives) refl)
+    rw (c.guarded_head-head.ensures, c.in-Ok.ensures.one) (where_one reader c.args.depth (pattern_view c.in-Ok.pattern) c.args.rest.now (sym c.is_word.ensures.value ∙ c.if-not-is_word.false) ∙ rw (← c.after-start.ensures.value, c.in_ok-guard-in-Ok.ensures.gives) refl)
 
 pub clauses::where_of-returns-in-Err-clause-gives : goal.clauses::where_of-returns-in-Err-clause-gives
 clauses::where_of-returns-in-Err-clause-gives t c =
-    rw (c.case_head-in-Err.ensures, c.in-Err.ensures.other.0) (where_many (read MOST_NESTING) c.args.depth (map pattern_view c.args.patterns) c.args.rest.now (λ single. c.in-Err.ensures.other.1 (sym (length-map c.args.patterns pattern_view) ∙ single)))
+    rw (c.case_head-in-Err.ensures, c.in-Err.ensures.other.0) (where_many reader c.args.depth (map pattern_view c.args.patterns) c.args.rest.now (λ single. c.in-Err.ensures.other.1 (sym (length-map c.args.patterns pattern_view) ∙ single)))
 
 pub clauses::clauses_goal-returns-in_err-clause-clause-gives : goal.clauses::clauses_goal-returns-in_err-clause-clause-gives
 clauses::clauses_goal-returns-in_err-clause-clause-gives t c =

@@ -1,6 +1,6 @@
 use Rattle.std.proofs.Common.{◌≡◌, true, false, List, ℕ, sym, subst, refl}
 use Rattle.own_tree.specs.View.{tree_view}
-use Rattle.own_tool.specs.SecondForm.{IsSecondForm}
+use Rattle.own_second.specs.SecondForm.{IsSecondForm}
 use Rattle.own_tool.proofs.Judging.{sound_found, its_findings}
 use Rattle.own_tool.proofs.tool.judge_tree.Goals as goal
 

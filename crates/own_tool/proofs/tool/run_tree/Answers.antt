@@ -1,7 +1,7 @@
 use Rattle.std.proofs.Common.{sym, subst, arith}
 use Rattle.own_tree.specs.View.{tree_view, declaration_view}
 use Rattle.wasm_form.specs.Within.{IsWithin}
-use Rattle.own_tool.proofs.Limits.{lowered_within, is_lowered}
+use Rattle.own_second.proofs.Limits.{lowered_within, is_lowered}
 use Rattle.own_tool.proofs.Judging.{ran_as}
 use Rattle.std.proofs.lemmas.List.{length-map}
 use Rattle.own_tool.proofs.tool.run_tree.Goals as goal

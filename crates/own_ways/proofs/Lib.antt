@@ -1,0 +1,3 @@
+pub mod WayRules
+pub mod Results
+pub mod Worked

@@ -1,0 +1,4 @@
+pub mod Ways
+pub mod Exact
+pub mod Arithmetic
+pub mod Laws
