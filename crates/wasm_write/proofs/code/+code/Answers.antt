@@ -18,7 +18,7 @@ push_immediates-returns-in-Loop t c =
 
 pub push_immediates-returns-in_ok-push_list-in-BrTable : goal.push_immediates-returns-in_ok-push_list-in-BrTable
 push_immediates-returns-in_ok-push_list-in-BrTable t c =
-    let whole : immediates_of c.args.instr.now ≡ list_shortest unsigned_shortest c.as_slice-in-BrTable.result.now ++ unsigned_shortest c.from.result = ap immediates_of c.in-BrTable.is ∙ br_table_is c.in-BrTable.labels c.in-BrTable.default ∙ ap (λ (ls : List ℕ). list_shortest unsigned_shortest ls ++ unsigned_shortest c.in-BrTable.default) (sym c.as_slice-in-BrTable.ensures) ∙ ap (λ l. list_shortest unsigned_shortest c.as_slice-in-BrTable.result.now ++ unsigned_shortest l) (sym c.from.ensures) in
+    let whole : immediates_of c.args.instr.now ≡ list_shortest unsigned_shortest c.as_slice-in-BrTable.result.now ++ unsigned_shortest c.from.result = ap immediates_of c.in-BrTable.is ∙ br_table_is c.in-BrTable.labels c.in-BrTable.default ∙ ap (λ (ls : List ℕ). list_shortest unsigned_shortest ls ++ unsigned_shortest c.in-BrTable.default) (sym (c.as_slice-in-BrTable.ensures ∙ c.get-in-BrTable.ensures)) ∙ ap (λ l. list_shortest unsigned_shortest c.as_slice-in-BrTable.result.now ++ unsigned_shortest l) (sym c.from.ensures) in
     last_call c.push_unsigned.result (c.push_unsigned.new.out.items ≡ c.push_list.new.out.items ++ unsigned_shortest c.from.result) _ (λ p. two_pieces _ _ c.push_list.new.out.items _ _ _ c.in_ok-push_list-in-BrTable.ensures p whole) c.push_unsigned.ensures
 
 pub push_immediates-returns-in_ok-push_unsigned-in-CallIndirect : goal.push_immediates-returns-in_ok-push_unsigned-in-CallIndirect
@@ -28,8 +28,8 @@ push_immediates-returns-in_ok-push_unsigned-in-CallIndirect t c =
 
 pub push_immediates-returns-in_ok-push_code-in-If : goal.push_immediates-returns-in_ok-push_code-in-If
 push_immediates-returns-in_ok-push_code-in-If t c =
-    let first : flat_map instr_shortest c.in-If.first ≡ flat_map instr_shortest c.as_slice-in-If.result.now = ap (flat_map instr_shortest) (sym c.as_slice-in-If.ensures) in
-    let second : second_shortest (map instr_shortest c.in-If.second) ≡ second_shortest (map instr_shortest c.as_slice-in-If-2.result.now) = ap (λ (s : List _). second_shortest (map instr_shortest s)) (sym c.as_slice-in-If-2.ensures) in
+    let first : flat_map instr_shortest c.in-If.first ≡ flat_map instr_shortest c.as_slice-in-If.result.now = ap (flat_map instr_shortest) (sym (c.as_slice-in-If.ensures ∙ c.get.ensures)) in
+    let second : second_shortest (map instr_shortest c.in-If.second) ≡ second_shortest (map instr_shortest c.as_slice-in-If-2.result.now) = ap (λ (s : List _). second_shortest (map instr_shortest s)) (sym (c.as_slice-in-If-2.ensures ∙ c.get-in-If.ensures)) in
     let byte : block_type_byte c.in-If.block_type ≡ c.block_byte.result = sym c.block_byte.ensures in
     let whole : immediates_of c.args.instr.now ≡ c.block_byte.result ∷ (flat_map instr_shortest c.as_slice-in-If.result.now ++ second_shortest (map instr_shortest c.as_slice-in-If-2.result.now)) = ap immediates_of c.in-If.is ∙ if_is c.in-If.block_type c.in-If.first c.in-If.second ∙ rw (byte, first, second) refl in
     last_call c.push_second.result (c.push_second.new.out.items ≡ c.push_code.new.out.items ++ second_shortest (map instr_shortest c.as_slice-in-If-2.result.now)) _ (λ p. three_pieces _ (c.block_byte.result ∷ []) c.push.new.self.items _ c.push_code.new.out.items _ _ _ c.in_ok-push-in-If.ensures.items c.in_ok-push_code-in-If.ensures p whole) c.push_second.ensures
