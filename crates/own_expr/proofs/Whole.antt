@@ -1,13 +1,13 @@
 -- What a reading of a block says of the trees that stand there.
-use Rattle.std.proofs.Common.{◌≡◌, ℕ, ◌+◌, ◌-◌, ◌≤◌, ◌<◌, ◌⊎◌, length, drop, length-drop, Ok, Err, ap, arith}
+use Rattle.std.proofs.Common.{◌≡◌, ℕ, ◌+◌, ◌-◌, ◌≤◌, ◌<◌, ◌⊎◌, length, drop, length-drop, Ok, Err, inl, refl, ap, arith}
 use Rattle.own_tree.specs.declared.limits.TheConstants.{MOST_NESTING}
-use Rattle.own_tree.specs.Source.{Blk}
+use Rattle.own_tree.specs.Source.{Blk, block}
 use Rattle.own_grammar.specs.Tests.{Toks}
 use Rattle.own_grammar.specs.declared.limits.TheConstants.{MOST_PATTERN_LEVELS}
 use Rattle.own_grammar.specs.Nesting.{nest_blk}
 use Rattle.own_grammar.specs.Levels.{levels_blk, levels_pb}
 use Rattle.own_grammar.specs.Spells.{SpellsB}
-use Rattle.own_grammar.specs.Partial.{PBlk, PartB, nest_pb}
+use Rattle.own_grammar.specs.Partial.{PBlk, gone_block, PartB, nest_pb}
 use Rattle.own_grammar.specs.Reading.{Fault, Syntax, Depth, Read, body}
 use Rattle.own_grammar.proofs.Within.{within, within_both, over_one}
 use Rattle.own_grammar.proofs.Laws.{block_again, block_found, block_syntax, one_block}
@@ -63,6 +63,16 @@ module _ (tokens : Toks) (from d : ℕ) where
       let le = tail_le (drop from tokens) b.1 p in
       let len = length-drop from tokens in
       ((b.0, placed b.0 b.1 n b.2 is b.3, over_one MOST_NESTING MOST_PATTERN_LEVELS d (nest_pb b.0) (levels_pb b.0) b.4), (omega (arith, b.2, le, len)))
+
+  some_node : (b : Blk) → 0 < nest_blk b
+  some_node (block s ss) = omega arith
+
+  -- where no level is left, no block is within the limit, and one that lacks all its parts is over it
+  pub no_level : MOST_NESTING ≤ d → (b : Blk) → d + nest_blk b ≤ MOST_NESTING → ⊥
+  no_level full b fit = let node = some_node b in omega (arith, full, fit, node)
+
+  pub all_deep : MOST_NESTING ≤ d → (p : PBlk) × PartB p (drop from tokens) (drop from tokens) × ((MOST_NESTING < d + nest_pb p) ⊎ (MOST_PATTERN_LEVELS < levels_pb p))
+  all_deep full = (gone_block, refl, inl (omega (arith, full)))
 
   pub no_block : (n : ℕ) → reader body d (drop from tokens) ≡ Err (Syntax n) → (b : Blk) (to : Toks) → SpellsB b (drop from tokens) to → ⊥
   no_block n e = block_syntax MOST_NESTING MOST_PATTERN_LEVELS some d n (drop from tokens) e

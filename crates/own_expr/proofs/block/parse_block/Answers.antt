@@ -1,8 +1,17 @@
 use Rattle.std.proofs.Common.{arith}
 use Rattle.own_tree.specs.View.{block_view}
 use Rattle.own_grammar.specs.Reading.{Syntax, Depth}
-use Rattle.own_expr.proofs.Whole.{stands, again, not_refused, no_block, too_deep}
+use Rattle.own_expr.proofs.Whole.{stands, again, not_refused, no_block, no_level, all_deep, too_deep}
 use Rattle.own_expr.proofs.block.parse_block.Goals as goal
+
+pub returns-then-depth-ge-MOST_NESTING-clause-only : goal.returns-then-depth-ge-MOST_NESTING-clause-only
+returns-then-depth-ge-MOST_NESTING-clause-only c = λ b to sp fit few. no_level c.args.tokens.now c.args.from c.args.depth (omega (arith, c.if-depth-ge-MOST_NESTING.true)) b fit
+
+pub returns-then-depth-ge-MOST_NESTING-clause-deep : goal.returns-then-depth-ge-MOST_NESTING-clause-deep
+returns-then-depth-ge-MOST_NESTING-clause-deep c = all_deep c.args.tokens.now c.args.from c.args.depth (omega (arith, c.if-depth-ge-MOST_NESTING.true))
+
+pub returns-in-Ok-clause-patterns : goal.returns-in-Ok-clause-patterns
+returns-in-Ok-clause-patterns c = (stands c.args.tokens.now c.args.from c.args.depth (block_view c.in-Ok.block) c.in-Ok.more.now (rw c.tokens_from-rest.ensures at c.in-Ok.ensures.gives)).patterns
 
 pub returns-in-Ok-clause-found : goal.returns-in-Ok-clause-found
 returns-in-Ok-clause-found c = rw c.place-next.ensures (stands c.args.tokens.now c.args.from c.args.depth (block_view c.in-Ok.block) c.in-Ok.more.now (rw c.tokens_from-rest.ensures at c.in-Ok.ensures.gives)).spelled
