@@ -1,6 +1,6 @@
 -- What is judged of a text makes its types such as a table is made of, and each refusal says why there is none.
 use Rattle.std.proofs.Common.{◌≡◌, ℕ, suc, ◌+◌, ◌-◌, ◌<◌, ◌≤◌, ◌^◌, Bool, true, false, List, [], ◌∷◌, ◌++◌, length, map, Option, Some, None, inl, inr, refl, sym, ap, ◌∙◌, subst, arith}
-use Rattle.std.specs.Prelude.{All, codes, ◌&&◌, if◌then◌else◌, nat_lt, slice_get}
+use Rattle.std.specs.Prelude.{All, codes, if◌then◌else◌, nat_lt, slice_get}
 use Rattle.std.specs.List.{list_all}
 use Rattle.std.specs.Str.{bytes_eq}
 use Rattle.std.proofs.lemmas.Bool.{lt-ltb, ltb-false}
@@ -8,7 +8,6 @@ use Rattle.std.proofs.lemmas.List.{length-map}
 use Rattle.std.proofs.lemmas.Option.{slice_get_within}
 use Rattle.std.proofs.lemmas.List.Elements.{All-nil, All-cons}
 use Rattle.own_tree.specs.declared.limits.TheConstants.{MOST_FIELDS, MOST_PARAMETERS}
-use Rattle.own_tree.specs.declared.place.Ty.{Ty}
 use Rattle.own_tree.specs.declared.refusal.LimitKind.{LimitKind}
 use Rattle.own_tree.specs.declared.refusal.LimitKind.TheVariants as limit
 use Rattle.own_tree.specs.declared.span.Span.{Span}

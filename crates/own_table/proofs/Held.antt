@@ -1,6 +1,6 @@
 -- A text of which T04 and T05 hold has types that are proper.
-use Rattle.std.proofs.Common.{◌≡◌, ℕ, zero, suc, ◌+◌, ◌<◌, Bool, true, false, List, [], ◌∷◌, ◌++◌, length, map, slice_get, Option, Some, None, inl, inr, refl, sym, ap, ◌∙◌, subst, arith}
-use Rattle.std.specs.Prelude.{codes, not, ◌&&◌, IsTrue, if◌then◌else◌}
+use Rattle.std.proofs.Common.{◌≡◌, ℕ, suc, ◌+◌, Bool, true, false, List, [], ◌∷◌, ◌++◌, length, map, slice_get, None, inl, inr, refl, sym, ap, ◌∙◌, subst}
+use Rattle.std.specs.Prelude.{codes, not, ◌&&◌, if◌then◌else◌}
 use Rattle.std.specs.List.{list_all}
 use Rattle.std.specs.Str.{bytes_eq}
 use Rattle.std.proofs.lemmas.Bool.{and_from}
@@ -13,10 +13,9 @@ use Rattle.own_tree.specs.declared.tree.Declaration.TheVariants as declaration
 use Rattle.own_tree.specs.declared.tree.Field.{Field}
 use Rattle.own_tree.specs.declared.tree.Name.{Name}
 use Rattle.own_tree.specs.declared.tree.Tree.{Tree}
-use Rattle.own_tree.specs.Source.{File}
 use Rattle.own_tree.specs.View.{declaration_view, tree_view}
 use Rattle.own_shapes.specs.declared.info.TypeInfo.{TypeInfo}
-use Rattle.own_shapes.specs.Types.{Declared, declared_types, type_number, written_type, named, resolved_field, resolved_case, resolved, resolved_types, field_types, all_case_types, contained}
+use Rattle.own_shapes.specs.Types.{Declared, declared_types, type_number, written_type, named, resolved_field, resolved_case, resolved, resolved_types, field_types, all_case_types}
 use Rattle.own_shapes.proofs.Lists.{In, get_in}
 use Rattle.own_survey.specs.declared.survey.Judgement.TheVariants as judgement
 use Rattle.own_survey.specs.declared.survey.Written.{Written}
