@@ -5,6 +5,10 @@
 #   truths   the same, with a literal at each payload, so that the first case is not covered
 #   nested   a chain of 8 enums of 4 cases, and the first SIZE of its forms as patterns
 #   clauses  one case of 32 payloads, and SIZE patterns with three literals at places that are drawn
+#   single   one case of SIZE truths and an enum of one case, which each pattern names: `true` at one of the truths,
+#            or `false` at all
+#   structs  an enum of two cases, of which each has a pattern, in a text with a chain of SIZE structs
+#   pairs    one case of two groups of SIZE truths; each of the 4 SIZE patterns has two truths at distant places
 # Usage: bench/cover.sh                      the list below
 #        bench/cover.sh KIND SIZE [TURNS]    one of them, TURNS more calls; one more without it
 set -eu
@@ -50,3 +54,9 @@ measure clauses 100 20
 measure clauses 136 2
 measure clauses 200 2
 measure clauses 384 2
+measure single 24 1000
+measure structs 999 1000
+measure pairs 8 20
+measure pairs 10 5
+measure pairs 12 1
+measure pairs 14 1

@@ -12,6 +12,12 @@ pub enum Kind {
     Clauses,
     /// Patterns of a chain of enums, which name a case at each level.
     Nested,
+    /// Patterns with a truth each, beside the only case of an enum.
+    Single,
+    /// A pattern for each case of an enum, among types that are a chain of structs.
+    Structs,
+    /// Patterns that each have two truths, at places that lie far apart.
+    Pairs,
 }
 
 impl FromStr for Kind {
@@ -23,7 +29,12 @@ impl FromStr for Kind {
             "truths" => Ok(Kind::Truths),
             "clauses" => Ok(Kind::Clauses),
             "nested" => Ok(Kind::Nested),
-            _ => bail!("no kind of problem: cases, truths, clauses or nested"),
+            "single" => Ok(Kind::Single),
+            "structs" => Ok(Kind::Structs),
+            "pairs" => Ok(Kind::Pairs),
+            _ => bail!(
+                "no kind of problem: cases, truths, clauses, nested, single, structs or pairs"
+            ),
         }
     }
 }

@@ -1,6 +1,6 @@
-//! The patterns that coverage is timed on. The words are `cases`, `truths`, `clauses` or `nested`, a SIZE and a
-//! number of TURNS: so many patterns of a kind are made, and it is asked so many times, and once at least,
-//! whether they cover their type.
+//! The patterns that coverage is timed on. The words are a kind of problem, as `cases`, its SIZE and a number of
+//! TURNS: patterns of the kind are made, and it is asked so many times, and once at least, whether they cover
+//! their type.
 #![tactic(auto)]
 
 mod kind;
@@ -26,7 +26,9 @@ fn main(rt: HostRuntime) -> anyhow::Result<()> {
             let problem = Problem::new(alloc, kind, size)?;
             print(&rt, &asked(alloc, &problem, turns)?)
         }
-        _ => bail!("usage: bench_cover cases|truths|clauses|nested SIZE TURNS"),
+        _ => bail!(
+            "usage: bench_cover cases|truths|clauses|nested|single|structs|pairs SIZE TURNS"
+        ),
     }
 }
 

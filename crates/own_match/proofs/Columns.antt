@@ -1,13 +1,15 @@
 -- What the code's columns stand for, one cell after the other.
-use Rattle.std.proofs.Common.{◌≡◌, ℕ, zero, suc, Bool, false, if◌then◌else◌, List, [], ◌∷◌, map, drop, length, Option, Some, None, option_copied, slice_get, ◌⊎◌, inl, inr, refl, sym, ap, ◌∙◌, arith, eq-eqb, take, Result, Ok, Err, IfOk}
+use Rattle.std.proofs.Common.{◌≡◌, ℕ, zero, suc, Bool, true, false, if◌then◌else◌, List, [], ◌∷◌, map, drop, length, Option, Some, None, option_copied, slice_get, ◌⊎◌, inl, inr, refl, sym, ap, ◌∙◌, arith, eq-eqb, take, Result, Ok, Err, IfOk}
 use Rattle.std.proofs.lemmas.Option.{same_Some, none-some}
 use Rattle.std.specs.Borrow.{Bor}
 use Rattle.own_tree.specs.declared.pattern.TPattern.{TPattern}
+use Rattle.own_tree.specs.declared.place.Ty.{Ty}
 use Rattle.own_tree.specs.TypedSource.{any, of_case, pat}
 use Rattle.own_tree.specs.TypedView.{pats_of, pattern_view}
+use Rattle.own_shapes.specs.Types.{Shape, shapes_of}
 use Rattle.own_match.specs.Forms.{part_at, part}
 use Rattle.own_match.specs.declared.head.Head.{Head}
-use Rattle.own_match.specs.Search.{narrowed, is_mentioned, front, back, gathered}
+use Rattle.own_match.specs.Search.{narrowed, is_mentioned, parts_match_all, front, back, gathered}
 use Rattle.own_match.proofs.Patterns.{case_view}
 use Rattle.own_tree.specs.declared.pattern.TPattern
 use Rattle.own_match.specs.View.{said, said_all}
@@ -36,6 +38,12 @@ mentions_end h [] cells e = refl
 mentions_end h (l ∷ live) [] e = refl
 mentions_end h (l ∷ live) (p ∷ cells) (inl e) = absurd (omega (arith, e))
 mentions_end h (l ∷ live) (p ∷ cells) (inr e) = absurd (omega (arith, e))
+
+pub parts_end : (shape_of : Ty → Shape) (tys : List Ty) (ps : List TPattern) → (length tys ≡ 0) ⊎ (length ps ≡ 0) → parts_match_all (shapes_of shape_of tys) (pats_of (map pattern_view ps)) ≡ true
+parts_end shape_of tys [] e = refl
+parts_end shape_of [] (p ∷ ps) e = refl
+parts_end shape_of (ty ∷ tys) (p ∷ ps) (inl e) = absurd (omega (arith, e))
+parts_end shape_of (ty ∷ tys) (p ∷ ps) (inr e) = absurd (omega (arith, e))
 
 -- ---- the forms of a case's payloads, and the others
 

@@ -1,7 +1,6 @@
 -- A search finds nothing exactly where every tuple of values is matched, which is all that its short cuts need.
-use Rattle.std.proofs.Common.{◌≡◌, ℕ, zero, suc, ◌⊎◌, ℤ, Bool, true, false, not, ◌&&◌, ◌||◌, List, [], ◌∷◌, Option, Some, None, slice_get, inl, inr, refl, sym, ap, ◌∙◌, subst, int_eq}
+use Rattle.std.proofs.Common.{◌≡◌, ℕ, zero, suc, ◌⊎◌, ℤ, Bool, true, false, List, [], ◌∷◌, Option, Some, None, inl, inr, refl, sym, ◌∙◌, subst, int_eq}
 use Rattle.std.specs.Cmp.{signed_Decides}
-use Rattle.std.proofs.lemmas.Option.{same_Some, none-some}
 use Rattle.own_tree.specs.TypedSource.{TPat, any, bind, of_case, of_number, of_truth, TPats, no_pats, pat}
 use Rattle.own_shapes.specs.Types.{TypeHead, Shape, Shapes, no_shapes, Payloads, no_payloads, payloads}
 use Rattle.own_shapes.specs.Types as shape
@@ -9,10 +8,10 @@ use Rattle.own_match.specs.declared.head.Head.{Head}
 use Rattle.own_match.specs.declared.head.Head.TheVariants as head
 use Rattle.own_match.specs.Values.{Val, int, bool, opaque, struct, variant, Vals, no_vals, val, IsOf, IsOfCase, AreOf}
 use Rattle.own_match.specs.Forms.{inside, literals, IsForm, IsFormOfCase, AreForms, StandsFor, AllStandFor}
-use Rattle.own_match.specs.Search.{accepts, narrowed, is_mentioned, Column, gap_columns}
+use Rattle.own_match.specs.Search.{accepts, Column, gap_columns}
 use Rattle.own_match.proofs.Order.{In, contains_in, in_contains}
-use Rattle.own_match.proofs.Tuples.{TupleOf, Forms, Stand, RowMatches, IsLive, Matched}
-use Rattle.own_match.proofs.Narrow.{false_true, CellAccepts, narrowed_live, live_narrowed, anything_matches}
+use Rattle.own_match.proofs.Tuples.{TupleOf, Forms, Stand, CellMatches, RowMatches, IsLive, Matched}
+use Rattle.own_match.proofs.Narrow.{false_true}
 use Rattle.own_match.proofs.Exact.{Good, Exact, columns_exact}
 
 -- ---- each value has a form
@@ -124,18 +123,12 @@ covered_none cs live covered = by_answer (gap_columns cs live) (columns_exact cs
     by_answer None a = refl
     by_answer (Some fs) a = absurd (a.none a.some.0 a.some.1 a.some.2 (covered a.some.0 a.some.1))
 
--- the same patterns are live
-abbrev pub NoMoreLive : List Bool → List Bool → Type 0
-NoMoreLive a b = (i : ℕ) → IsLive a i → IsLive b i
+-- ---- a live pattern that matches all values
 
-pub covered_by_more : (cs : List Column) (a b : List Bool) → NoMoreLive a b → gap_columns cs a ≡ None → gap_columns cs b ≡ None
-covered_by_more cs a b more e = covered_none cs b (λ vs t. let m = none_covered cs a e vs t in (m.0, more m.0 m.1, m.2))
-
--- ---- a live pattern that says nothing
-
+-- pattern i does so at each of these columns
 abbrev pub SaysNothing : List Column → ℕ → Type 0
 SaysNothing [] i = Unit {0}
-SaysNothing (c ∷ cs) i = CellAccepts head.Other c.cells i × SaysNothing cs i
+SaysNothing (c ∷ cs) i = ((v : Val) → IsOf c.shape v → CellMatches c.cells i v) × SaysNothing cs i
 
 pub nothing_said : (cs : List Column) (live : List Bool) (i : ℕ) → IsLive live i → SaysNothing cs i → gap_columns cs live ≡ None
 nothing_said cs live i l says = covered_none cs live (λ vs t. (i, l, row cs vs says t))
@@ -144,36 +137,9 @@ nothing_said cs live i l says = covered_none cs live (λ vs t. (i, l, row cs vs 
     row [] no_vals s t = tt
     row [] (val v vs) s t = absurd t
     row (c ∷ cs) no_vals s t = absurd t
-    row (c ∷ cs) (val v vs) s t = ((s.0.0, s.0.1, anything_matches s.0.0 v s.0.2), row cs vs s.1 t.1)
+    row (c ∷ cs) (val v vs) s t = (s.0 v t.0, row cs vs s.1 t.1)
 
--- ---- a head that no live pattern mentions
-
-pub unmentioned : (h : Head) (live : List Bool) (cells : List TPat) → is_mentioned h live cells ≡ false → NoMoreLive (narrowed h live cells) (narrowed head.Other live cells)
-unmentioned h live cells e i l =
-    let n = narrowed_live h live cells i l in
-    live_narrowed head.Other live cells i n.0 (n.1.0, n.1.1, others live cells i e n.0 n.1.0 n.1.1 n.1.2)
-  where
-    others : (live : List Bool) (cells : List TPat) (i : ℕ) → is_mentioned h live cells ≡ false → IsLive live i → (p : TPat) → slice_get cells i ≡ Some p → accepts h p ≡ true → accepts head.Other p ≡ true
-    others [] cells i e l p at a = absurd (none-some _ l)
-    others (b ∷ live) [] i e l p at a = absurd (none-some _ at)
-    others (b ∷ live) (q ∷ cells) (suc i) e l p at a = others live cells i (later (b && (accepts h q && not (accepts head.Other q))) (is_mentioned h live cells) e) l p at a
-      where
-        later : (x y : Bool) → (x || y) ≡ false → y ≡ false
-        later true y e = false_true (sym e)
-        later false y e = e
-    others (b ∷ live) (q ∷ cells) zero e l p at a =
-        by_bit (accepts head.Other p) refl
-      where
-        first : (x y : Bool) → (x || y) ≡ false → x ≡ false
-        first true y e = false_true (sym e)
-        first false y e = refl
-
-        by_bit : (o : Bool) → accepts head.Other p ≡ o → o ≡ true
-        by_bit true h' = refl
-        by_bit false h' = false_true (sym (first (b && (accepts h q && not (accepts head.Other q))) (is_mentioned h live cells) e)
-            ∙ ap (λ x. x && (accepts h q && not (accepts head.Other q))) (same_Some _ _ l)
-            ∙ ap (λ x. accepts h x && not (accepts head.Other x)) (same_Some _ _ at)
-            ∙ ap (λ x. x && not (accepts head.Other p)) a ∙ ap not h')
+-- ---- what matches without looking
 
 pub others_accepted : (h : Head) (p : TPat) → accepts head.Other p ≡ true → accepts h p ≡ true
 others_accepted h any e = refl
@@ -181,8 +147,3 @@ others_accepted h (bind x) e = refl
 others_accepted h (of_case c ps) e = false_true e
 others_accepted h (of_number n) e = false_true e
 others_accepted h (of_truth b) e = false_true e
-
-pub others_live : (h : Head) (live : List Bool) (cells : List TPat) → NoMoreLive (narrowed head.Other live cells) (narrowed h live cells)
-others_live h live cells i l =
-    let n = narrowed_live head.Other live cells i l in
-    live_narrowed h live cells i n.0 (n.1.0, n.1.1, others_accepted h n.1.0 n.1.2)

@@ -1,6 +1,7 @@
 -- The shape of a type of the table, as the code reads it from the table.
-use Rattle.std.proofs.Common.{◌≡◌, ℕ, zero, suc, ◌+◌, ◌<◌, ◌≤◌, max, Bool, true, false, ◌&&◌, List, [], ◌∷◌, ◌++◌, length, map, drop, slice_get, Option, Some, None, refl, sym, ap, ◌∙◌, subst, arith, unwrap_or, get_or, option_map, add-one}
+use Rattle.std.proofs.Common.{◌≡◌, ℕ, zero, suc, ◌+◌, ◌<◌, ◌≤◌, max, Bool, true, false, List, [], ◌∷◌, ◌++◌, length, map, drop, slice_get, Option, Some, None, refl, sym, ap, ◌∙◌, subst, arith, get_or, option_map, add-one}
 use Rattle.std.proofs.lemmas.Option.{same_Some, none-some, slice_get-get_or, slice_get-map}
+use Rattle.own_tree.specs.declared.limits.TheConstants.{MOST_FIELDS}
 use Rattle.own_tree.specs.declared.pattern.TPattern.{TPattern}
 use Rattle.own_tree.specs.declared.place.Ty.{Ty}
 use Rattle.own_tree.specs.declared.place.Ty.TheVariants as type
@@ -12,13 +13,13 @@ use Rattle.own_shapes.specs.Types.{TypeHead, Shape, Shapes, no_shapes, Payloads,
 use Rattle.own_shapes.specs.Types as shape
 use Rattle.own_table.specs.Table.{types_in, shape_in_table, IsTypeIn, AreWhole}
 use Rattle.own_table.proofs.Whole.{tables_are_whole}
-use Rattle.own_match.specs.Inhabited.{has_value, all_have_values, AreInhabited}
-use Rattle.own_match.specs.Search.{inhabited, all_inhabited, Later, payload_columns, gap, gap_in_cases, gap_where}
+use Rattle.own_table.specs.HasValue.{has_value}
+use Rattle.own_match.specs.Search.{no_others, is_only_case, payloads_at, case_payloads, Later, payload_columns, gap, gap_in_cases, gap_where}
 use Rattle.own_match.specs.First.{any_where, form_before, or_form, case_with, first_form, first_case, first_forms, first_of_columns}
 use Rattle.own_match.specs.View.{AreTypes, IsCase, forms_and, said_all, columns_held}
 use Rattle.own_match.specs.declared.column.Column.{Column as Held}
 use Rattle.own_match.specs.Weights.{weight, weights, most_weight}
-use Rattle.own_match.proofs.Inhabiting.{each_case, CaseParts}
+use Rattle.own_match.proofs.Parts.{CaseParts, each_case, part_types}
 use Rattle.own_match.proofs.Narrow.{false_true}
 
 module _ (table : TypeTable) where
@@ -41,7 +42,7 @@ module _ (table : TypeTable) where
   enum_is type.Bool t e = false_true e
   enum_is type.Unit t e = false_true e
   enum_is (type.Fun k) t e = false_true e
-  enum_is (type.Named k) t e = whole.enum_shape k t e
+  enum_is (type.Named k) t e = let s = whole.enum_shape k t e in (s.0, s.1)
 
   abbrev Struct : Ty → Type 0
   Struct ty = (h : TypeHead) × (fields : Shapes) × (shape_of ty ≡ shape.struct h fields)
@@ -49,31 +50,17 @@ module _ (table : TypeTable) where
   pub struct_is : (k : ℕ) → IsTypeIn table (type.Named k) → (types_in table).is_enum (type.Named k) ≡ false → Struct (type.Named k)
   struct_is k t e = let s = whole.struct_shape k t e in (s.0, shapes_of shape_of (field_types ((types_in table).properties (type.Named k))), s.1)
 
-  -- ---- what is known of values
+  pub first_struct : (k : ℕ) (cells : List TPat) → IsTypeIn table (type.Named k) → (types_in table).is_enum (type.Named k) ≡ false
+      → first_form (shape_of (type.Named k)) cells ≡ any_where (has_value (shape_of (type.Named k)))
+  first_struct k cells t e =
+      let s = struct_is k t e in
+      ap (λ x. first_form x cells) s.2 ∙ ap any_where (sym (ap has_value s.2))
 
-  module _ (known : List Bool) (so : AreInhabited (types_in table) known) where
-    pub value_is : (ty : Ty) → IsTypeIn table ty → has_value known ty ≡ inhabited (shape_of ty)
-    value_is type.Int t = refl
-    value_is type.Bool t = refl
-    value_is type.Unit t = refl
-    value_is (type.Fun k) t = refl
-    value_is (type.Named k) t = ap (λ o. unwrap_or o false) (so k t)
-
-    pub values_are : (tys : List Ty) → AreTypes table tys → all_have_values known tys ≡ all_inhabited (shapes_of shape_of tys)
-    values_are [] t = refl
-    values_are (ty ∷ tys) t = ap (λ b. b && all_have_values known tys) (value_is ty t.0) ∙ ap (λ b. inhabited (shape_of ty) && b) (values_are tys t.1)
-
-    pub first_struct : (k : ℕ) (cells : List TPat) → IsTypeIn table (type.Named k) → (types_in table).is_enum (type.Named k) ≡ false
-        → first_form (shape_of (type.Named k)) cells ≡ any_where (has_value known (type.Named k))
-    first_struct k cells t e =
-        let s = struct_is k t e in
-        ap (λ x. first_form x cells) s.2 ∙ ap any_where (sym (value_is (type.Named k) t ∙ ap inhabited s.2))
-
-    pub gap_struct : (k : ℕ) (cells : List TPat) (next : Later) (live : List Bool) → IsTypeIn table (type.Named k) → (types_in table).is_enum (type.Named k) ≡ false
-        → gap (shape_of (type.Named k)) cells next live ≡ gap_where (has_value known (type.Named k)) cells next live
-    gap_struct k cells next live t e =
-        let s = struct_is k t e in
-        ap (λ x. gap x cells next live) s.2 ∙ ap (λ b. gap_where b cells next live) (sym (value_is (type.Named k) t ∙ ap inhabited s.2))
+  pub gap_struct : (k : ℕ) (cells : List TPat) (next : Later) (live : List Bool) → IsTypeIn table (type.Named k) → (types_in table).is_enum (type.Named k) ≡ false
+      → gap (shape_of (type.Named k)) cells next live ≡ gap_where (has_value (shape_of (type.Named k))) cells next live
+  gap_struct k cells next live t e =
+      let s = struct_is k t e in
+      ap (λ x. gap x cells next live) s.2 ∙ ap (λ b. gap_where b cells next live) (sym (ap has_value s.2))
 
   pub first_enum : (ty : Ty) (cells : List TPat) → IsTypeIn table ty → (types_in table).is_enum ty ≡ true
       → first_form (shape_of ty) cells ≡ first_case (payloads_of shape_of (case_types (cases_of ty))) 0 cells
@@ -87,7 +74,7 @@ module _ (table : TypeTable) where
 
   parts_at : (cs : List CaseInfo) (k : ℕ) (c : CaseInfo) → CaseParts (types_in table).count cs → slice_get cs k ≡ Some c → AreTypes table c.payloads
   parts_at [] k c p e = absurd (none-some _ e)
-  parts_at (d ∷ cs) zero c p e = subst (λ x. AreTypes table x.payloads) (same_Some _ _ e) p.0
+  parts_at (d ∷ cs) zero c p e = subst (λ x. AreTypes table x.payloads) (same_Some _ _ e) (part_types (types_in table).count d.payloads p.0)
   parts_at (d ∷ cs) (suc k) c p e = parts_at cs k c p.1 e
 
   pub case_types_in : (ty : Ty) (k : ℕ) (c : CaseInfo) → IsTypeIn table ty → IsCase table ty k c → AreTypes table c.payloads
@@ -117,6 +104,40 @@ module _ (table : TypeTable) where
   part_weight [] i ty e = absurd (none-some _ e)
   part_weight (u ∷ tys) zero ty e = subst (λ x. weight (shape_of x) ≤ weight (shape_of u) + weights (shapes_of shape_of tys)) (same_Some _ _ e) (omega arith)
   part_weight (u ∷ tys) (suc i) ty e = omega (arith, part_weight tys i ty e)
+
+  -- ---- all values of a type
+
+  -- what is no enum has no case
+  pub no_case_of : (ty : Ty) (c : ℕ) → IsTypeIn table ty → (types_in table).is_enum ty ≡ false → is_only_case (shape_of ty) c ≡ false
+  no_case_of type.Int c t e = refl
+  no_case_of type.Bool c t e = refl
+  no_case_of type.Unit c t e = refl
+  no_case_of (type.Fun k) c t e = refl
+  no_case_of (type.Named k) c t e = ap (λ s. is_only_case s c) (struct_is k t e).2
+
+  pub only_case_of : (ty : Ty) (c : ℕ) → IsTypeIn table ty → (types_in table).is_enum ty ≡ true → is_only_case (shape_of ty) c ≡ no_others c 0 (payloads_of shape_of (case_types (cases_of ty)))
+  only_case_of ty c t e = ap (λ s. is_only_case s c) (enum_is ty t e).1
+
+  pub case_payloads_of : (ty : Ty) (c : ℕ) → IsTypeIn table ty → (types_in table).is_enum ty ≡ true → case_payloads (shape_of ty) c ≡ payloads_at (payloads_of shape_of (case_types (cases_of ty))) c
+  case_payloads_of ty c t e = ap (λ s. case_payloads s c) (enum_is ty t e).1
+
+  pub payloads_got : (cs : List CaseInfo) (c : ℕ) (info : CaseInfo) → slice_get cs c ≡ Some info → payloads_at (payloads_of shape_of (case_types cs)) c ≡ shapes_of shape_of info.payloads
+  payloads_got [] c info e = absurd (none-some _ e)
+  payloads_got (d ∷ cs) zero info e = ap (λ x. shapes_of shape_of x.payloads) (same_Some _ _ e)
+  payloads_got (d ∷ cs) (suc c) info e = payloads_got cs c info e
+
+  pub payloads_absent : (cs : List CaseInfo) (c : ℕ) → length cs ≤ c → payloads_at (payloads_of shape_of (case_types cs)) c ≡ no_shapes
+  payloads_absent [] c l = refl
+  payloads_absent (d ∷ cs) zero l = absurd (omega (arith, l))
+  payloads_absent (d ∷ cs) (suc c) l = payloads_absent cs c (omega (arith, l))
+
+  -- M5
+  pub few_cases_of : (ty : Ty) → IsTypeIn table ty → length (cases_of ty) ≤ MOST_FIELDS
+  few_cases_of type.Int t = omega arith
+  few_cases_of type.Bool t = omega arith
+  few_cases_of type.Unit t = omega arith
+  few_cases_of (type.Fun k) t = omega arith
+  few_cases_of (type.Named k) t = whole.few_cases k t
 
 -- ---- first forms of columns
 

@@ -1,16 +1,18 @@
 -- The search is exact: it gives the first forms that no live pattern matches, and none where there are no such.
-use Rattle.std.proofs.Common.{◌≡◌, ℕ, zero, suc, ◌+◌, ◌<◌, ◌⊎◌, ◌≤◌, ℤ, pos, ◌<ℤ◌, Bool, true, false, ◌||◌, ◌&&◌, List, [], ◌∷◌, Option, Some, None, if◌then◌else◌, inl, inr, refl, sym, ap, ◌∙◌, subst, arith, ◌-◌, eq-or-lt_of_le, zero-add, add-zero}
+use Rattle.std.proofs.Common.{◌≡◌, ◌↔◌, ℕ, zero, suc, ◌+◌, ◌<◌, ◌⊎◌, ◌≤◌, ℤ, pos, ◌<ℤ◌, Bool, true, false, ◌||◌, ◌&&◌, List, [], ◌∷◌, Option, Some, None, if◌then◌else◌, inl, inr, refl, sym, ap, ◌∙◌, subst, arith, ◌-◌, eq-or-lt_of_le, zero-add, add-zero}
 use Rattle.std.proofs.lemmas.Option.{same_Some, none-some}
 use Rattle.std.specs.Cmp.{int_chain}
 use Rattle.std.specs.Int.Signed.{<ℤ_irrefl}
 use Rattle.own_tree.specs.TypedSource.{TPat, any, bind, of_case, of_number, of_truth, TPats, no_pats, pat}
 use Rattle.own_shapes.specs.Types.{TypeHead, Shape, Shapes, no_shapes, Payloads, no_payloads, payloads}
 use Rattle.own_shapes.specs.Types as shape
+use Rattle.own_table.specs.HasValue.{has_value, all_have_values, one_has_values}
 use Rattle.own_match.specs.declared.head.Head.{Head}
 use Rattle.own_match.specs.declared.head.Head.TheVariants as head
 use Rattle.own_match.specs.Values.{Val, int, bool, opaque, struct, variant, Vals, no_vals, val, IsOf, IsOfCase, AreOf, Matches}
 use Rattle.own_match.specs.Forms.{inside, literals, IsForm, IsFormOfCase, AreForms, StandsFor, AllStandFor, ComesBefore, AllComeBefore}
-use Rattle.own_match.specs.Search.{inhabited, all_inhabited, one_inhabited, narrowed, rising, or_else, led, front, back, gathered, count, Later, gap_in_numbers, gap_in_truths, gap_where, gap, gap_in_cases, gap_in_payloads, Column, any_live, gap_end, gap_columns}
+use Rattle.own_match.specs.Laws.{HasValueIsExact}
+use Rattle.own_match.specs.Search.{narrowed, rising, or_else, led, front, back, gathered, count, Later, gap_in_numbers, gap_in_truths, gap_where, gap, gap_in_cases, gap_in_payloads, Column, any_live, gap_end, gap_columns}
 use Rattle.own_match.proofs.Order.{In, contains_in, in_contains, Above, Rises, rising_rises, rising_in, in_rising, fresh, fresh_apart, apart_from_itself}
 use Rattle.own_match.proofs.Tuples.{TupleOf, Forms, Stand, CellMatches, IsLive, Matched, column, before, join, join_vals, front_vals, back_vals, join_front_back, tuple_front, tuple_join, forms_front, forms_join, stand_front, stand_join, row_join, row_parts, join_before, join_same}
 use Rattle.own_match.proofs.Narrow.{false_true, CellAccepts, narrowed_live, live_narrowed, number_matches, matches_number, truth_matches, matches_truth, anything_matches, matches_struct, matches_opaque, matches_other, case_parts, parts_case}
@@ -309,25 +311,33 @@ unfolding CaseLives
 no_case_lives k vs t = t
 
 mutual
-  lives : (s : Shape) → Lives s (inhabited s)
+  lives : (s : Shape) → Lives s (has_value s)
   lives shape.number = one_lives shape.number (int (pos 0)) tt
   lives shape.truth = one_lives shape.truth (bool true) tt
   lives shape.no_value = one_lives shape.no_value opaque tt
   lives shape.closure = one_lives shape.closure opaque tt
-  lives (shape.struct h fields) = struct_lives h fields (all_inhabited fields) (all_live fields)
-  lives (shape.enum h cases) = enum_lives h cases (one_inhabited cases) (case_lives cases)
+  lives (shape.struct h fields) = struct_lives h fields (all_have_values fields) (all_live fields)
+  lives (shape.enum h cases) = enum_lives h cases (one_has_values cases) (case_lives cases)
 
-  all_live : (ss : Shapes) → AllLive ss (all_inhabited ss)
+  all_live : (ss : Shapes) → AllLive ss (all_have_values ss)
   all_live no_shapes = none_of_none
-  all_live (shape.shape s ss) = both_live s ss (inhabited s) (all_inhabited ss) (lives s) (all_live ss)
+  all_live (shape.shape s ss) = both_live s ss (has_value s) (all_have_values ss) (lives s) (all_live ss)
 
-  case_lives : (cases : Payloads) → CaseLives cases (one_inhabited cases)
+  case_lives : (cases : Payloads) → CaseLives cases (one_has_values cases)
   case_lives no_payloads = no_case_lives
-  case_lives (payloads ss cases) = either_lives ss cases (all_inhabited ss) (one_inhabited cases) (all_live ss) (case_lives cases)
+  case_lives (payloads ss cases) = either_lives ss cases (all_have_values ss) (one_has_values cases) (all_live ss) (case_lives cases)
 
-pub no_values : (ss : Shapes) → all_inhabited ss ≡ false → (vs : Vals) → AreOf ss vs → ⊥
+pub no_values : (ss : Shapes) → all_have_values ss ≡ false → (vs : Vals) → AreOf ss vs → ⊥
 unfolding AllLive
 no_values ss e = subst (λ b. AllLive ss b) e (all_live ss)
+
+pub has_value_is_exact : HasValueIsExact
+unfolding Lives
+has_value_is_exact s = by_bit (has_value s) (lives s)
+  where
+    by_bit : (b : Bool) → Lives s b → b ≡ true ↔ ((v : Val) × IsOf s v)
+    by_bit true l = (λ e. l, λ v. refl)
+    by_bit false l = (λ e. false_true e, λ v. absurd (l v.0 v.1))
 
 -- ---- numbers
 
@@ -689,7 +699,7 @@ mutual
   gap_exact shape.truth cells cs next exact live = truth_exact cells cs next exact live
   gap_exact shape.no_value cells cs next exact live = where_live shape.no_value cells cs next exact live (any_alone_opaque cells) (no_value_leads cells)
   gap_exact shape.closure cells cs next exact live = where_live shape.closure cells cs next exact live (any_alone_closure cells) (closure_leads cells)
-  gap_exact (shape.struct h fields) cells cs next exact live = struct_exact h fields cells cs next exact live (all_inhabited fields) (all_live fields)
+  gap_exact (shape.struct h fields) cells cs next exact live = struct_exact h fields cells cs next exact live (all_have_values fields) (all_live fields)
   gap_exact (shape.enum h cases) cells cs next exact live =
       enum_everything h cases cells cs live (gap_in_cases cases zero cells next live) (cases_exact cases h cases zero cells cs next exact live (λ j. ap (payload_at cases) (zero-add j)))
 

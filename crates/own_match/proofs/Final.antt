@@ -16,49 +16,49 @@ use Rattle.own_match.proofs.Covered.{none_covered}
 use Rattle.own_match.proofs.Steps.{found_count}
 use Rattle.own_match.proofs.Taking.{pats_length}
 
-abbrev alive : List TPat → List Bool
+abbrev pub alive : List TPat → List Bool
 alive ps = replicate (length ps) true
 
-one_live : (n i : ℕ) → i < n → slice_get (replicate n true) i ≡ Some true
+pub one_live : (n i : ℕ) → i < n → slice_get (replicate n true) i ≡ Some true
 one_live zero i l = absurd (omega (arith, l))
 one_live (suc n) zero l = refl
 one_live (suc n) (suc i) l = one_live n i (omega (arith, l))
 
 module _ (s : Shape) (ps : List TPat) where
-  abbrev whole : List Column
+  abbrev pub whole : List Column
   whole = column s ps ∷ []
 
-  covered_by : (v : Val) → Matched whole (alive ps) (val v no_vals) → IsCovered ps v
+  pub covered_by : (v : Val) → Matched whole (alive ps) (val v no_vals) → IsCovered ps v
   covered_by v m =
       let p = m.2.0.0 in
       (m.0, p, slice_get_within ps m.0 p m.2.0.1, get_or_from_slice_get ps m.0 p p m.2.0.1, m.2.0.2)
 
-  by_covered : (v : Val) → IsCovered ps v → Matched whole (alive ps) (val v no_vals)
+  pub by_covered : (v : Val) → IsCovered ps v → Matched whole (alive ps) (val v no_vals)
   by_covered v c =
       (c.0, one_live (length ps) c.0 c.2, ((c.1, slice_get-get_or ps c.0 c.1 c.2 ∙ ap Some c.3, c.4), tt))
 
-  all_covered : gap s ps gap_end (alive ps) ≡ None → Covers ps s
+  pub all_covered : gap s ps gap_end (alive ps) ≡ None → Covers ps s
   all_covered e v t = covered_by v (none_covered whole (alive ps) e (val v no_vals) (t, tt))
 
   module _ (f : TPat) (e : gap s ps gap_end (alive ps) ≡ Some (pat f no_pats)) where
-    found : Gap Everything whole (alive ps) (pat f no_pats)
+    pub found : Gap Everything whole (alive ps) (pat f no_pats)
     found = subst (λ r. Exact whole (alive ps) r) e (columns_exact whole (alive ps))
 
-    some_value : (vs : Vals) → TupleOf whole vs → Stand whole (pat f no_pats) vs → (v : Val) × IsOf s v × StandsFor ps f v
+    pub some_value : (vs : Vals) → TupleOf whole vs → Stand whole (pat f no_pats) vs → (v : Val) × IsOf s v × StandsFor ps f v
     some_value no_vals t st = absurd t
     some_value (val v vs) t st = (v, t.0, st.0)
 
-    missing : IsMissing s ps f
+    pub missing : IsMissing s ps f
     missing = record {
       form = found.forms.0;
       some = some_value found.some.0 found.some.1 found.some.2;
       none = λ v t st c. found.none (val v no_vals) (t, tt) (st, tt) (by_covered v c);
     }
 
-    first : IsFirst s ps f
+    pub first : IsFirst s ps f
     first g form earlier v t st = covered_by v (found.first (pat g no_pats) tt (form, tt) (inl earlier) (val v no_vals) (t, tt) (st, tt))
 
-    not_covered : Covers ps s → ⊥
+    pub not_covered : Covers ps s → ⊥
     not_covered all = let a = missing.some in missing.none a.0 a.1 a.2 (all a.0 a.1)
 
 -- what the answers say, by what was found

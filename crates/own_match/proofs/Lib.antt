@@ -5,7 +5,7 @@ pub mod Narrow
 pub mod Exact
 pub mod Columns
 pub mod Patterns
-pub mod Inhabiting
+pub mod Parts
 pub mod Covered
 pub mod Steps
 pub mod Enums
@@ -13,4 +13,4 @@ pub mod Taking
 pub mod Final
 pub mod Ordered
 pub mod Small
-pub mod Silent
+pub mod NothingSaid

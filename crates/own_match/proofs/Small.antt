@@ -1,10 +1,8 @@
 -- A form of a declared type has no more places than the type has slots.
-use Rattle.std.proofs.Common.{◌≡◌, ℕ, suc, ◌+◌, ◌<◌, ◌≤◌, ◌⊎◌, Bool, true, false, ◌||◌, List, [], ◌∷◌, IsTrue, Contains, inl, inr, refl, sym, ◌∙◌, subst, arith, ltb-true}
-use Rattle.std.specs.List.{AllByRecursion}
+use Rattle.std.proofs.Common.{◌≡◌, ℕ, ◌+◌, ◌<◌, ◌≤◌, ◌⊎◌, Bool, true, false, ◌||◌, List, [], ◌∷◌, IsTrue, inl, inr, refl, sym, ◌∙◌, subst, arith, ltb-true}
 use Rattle.own_tree.specs.declared.place.Ty.{Ty}
 use Rattle.own_tree.specs.declared.place.Ty.TheVariants as type
 use Rattle.own_shapes.specs.declared.info.CaseInfo.{CaseInfo}
-use Rattle.own_shapes.specs.declared.info.FieldInfo.{FieldInfo}
 use Rattle.own_table.specs.declared.table.TypeTable.{TypeTable}
 use Rattle.own_shapes.specs.Types.{TypeHead, Shape, Shapes, no_shapes, Payloads, no_payloads, payloads, shapes_of, payloads_of, field_types, case_types, is_part, is_none, one_if, slots, all_slots, most_slots}
 use Rattle.own_shapes.specs.Types as shape
@@ -13,25 +11,8 @@ use Rattle.own_table.proofs.Whole.{tables_are_whole}
 use Rattle.own_match.specs.Laws.{FormsAreSmall}
 use Rattle.own_match.specs.Weights.{weight, weights, most_weight}
 use Rattle.own_match.proofs.Narrow.{false_true}
+use Rattle.own_match.proofs.Parts.{Parts, CaseParts, each_field, each_case}
 use Rattle.own_match.proofs.Steps.{weight_positive}
-
-abbrev Parts : ℕ → List Ty → Type 0
-Parts count tys = AllByRecursion (λ ty. IsTrue (is_part count ty)) tys
-
-abbrev CaseParts : ℕ → List CaseInfo → Type 0
-CaseParts count cs = AllByRecursion (λ c. Parts count c.payloads) cs
-
-each_type : (count : ℕ) (tys : List Ty) → ((ty : Ty) → Contains tys ty → IsTrue (is_part count ty)) → Parts count tys
-each_type count [] all = tt
-each_type count (ty ∷ tys) all = (all ty (0, omega arith, refl), each_type count tys (λ t c. all t (suc c.0, omega (arith, c.1), c.2)))
-
-each_field : (count : ℕ) (fs : List FieldInfo) → ((f : FieldInfo) → Contains fs f → IsTrue (is_part count f.ty)) → Parts count (field_types fs)
-each_field count [] all = tt
-each_field count (f ∷ fs) all = (all f (0, omega arith, refl), each_field count fs (λ g c. all g (suc c.0, omega (arith, c.1), c.2)))
-
-each_case : (count : ℕ) (cs : List CaseInfo) → ((c : CaseInfo) → Contains cs c → (ty : Ty) → Contains c.payloads ty → IsTrue (is_part count ty)) → CaseParts count cs
-each_case count [] all = tt
-each_case count (c ∷ cs) all = (each_type count c.payloads (all c (0, omega arith, refl)), each_case count cs (λ d h. all d (suc h.0, omega (arith, h.1), h.2)))
 
 struct_small : (b : Bool) (ss : Shapes) → weights ss ≤ all_slots ss → 1 ≤ one_if (b || is_none ss) + all_slots ss
 struct_small true ss h = omega arith

@@ -5,11 +5,12 @@ use Rattle.std.proofs.lemmas.Option.{same_Some, none-some}
 use Rattle.own_tree.specs.TypedSource.{TPat, any, bind, of_case, of_number, of_truth, TPats, no_pats, pat}
 use Rattle.own_shapes.specs.Types.{TypeHead, Shape, Shapes, no_shapes, Payloads, no_payloads, payloads}
 use Rattle.own_shapes.specs.Types as shape
+use Rattle.own_table.specs.HasValue.{has_value, all_have_values, one_has_values}
 use Rattle.own_match.specs.declared.head.Head.{Head}
 use Rattle.own_match.specs.declared.head.Head.TheVariants as head
 use Rattle.own_match.specs.Values.{no_vals, val}
 use Rattle.own_match.specs.Forms.{part, inside}
-use Rattle.own_match.specs.Search.{inhabited, all_inhabited, one_inhabited, accepts, narrowed, is_mentioned, rising, or_else, led, front, back, gathered, count, Later, gap_in_numbers, gap_in_truths, gap_where, gap, gap_in_cases, gap_in_payloads, Column, payload_columns, gap_columns}
+use Rattle.own_match.specs.Search.{accepts, narrowed, is_mentioned, rising, or_else, led, front, back, gathered, count, Later, gap_in_numbers, gap_in_truths, gap_where, gap, gap_in_cases, gap_in_payloads, Column, payload_columns, gap_columns}
 use Rattle.own_match.specs.First.{least_of, any_where, or_form, case_with, form_before, first_form, first_case, first_forms}
 use Rattle.own_match.specs.Weights.{weight, weights, columns_weight}
 use Rattle.own_match.proofs.Tuples.{IsLive, Forms, before, join, tuple_front, column}
@@ -42,7 +43,7 @@ others_cover c cs live e = covered_none (c ∷ cs) live covered
         (m.0, n.0, ((n.1.0, n.1.1, anything_matches n.1.0 v n.1.2), m.2))
 
 -- payloads without a value
-pub no_payload_values : (ss : Shapes) (k : ℕ) (cells : List TPat) (cs : List Column) (live : List Bool) → all_inhabited ss ≡ false → gap_in_payloads ss k 0 cells (gap_columns cs) live ≡ None
+pub no_payload_values : (ss : Shapes) (k : ℕ) (cells : List TPat) (cs : List Column) (live : List Bool) → all_have_values ss ≡ false → gap_in_payloads ss k 0 cells (gap_columns cs) live ≡ None
 no_payload_values ss k cells cs live e =
     payload_gap ss k 0 cells cs live ∙ ap (λ c. gap_columns c live) (sym (before_is ss k 0 cells cs)) ∙ covered_none (before ss k 0 cells cs) live (λ vs t. absurd (no_values ss e _ (tuple_front ss k 0 cells cs vs t).0))
 
@@ -184,7 +185,7 @@ mutual
   unlooked shape.truth cells next live wild l = truth_gap cells next live wild l
   unlooked shape.no_value cells next live wild l = where_gap true cells next live wild l
   unlooked shape.closure cells next live wild l = where_gap true cells next live wild l
-  unlooked (shape.struct h fields) cells next live wild l = where_gap (all_inhabited fields) cells next live wild l
+  unlooked (shape.struct h fields) cells next live wild l = where_gap (all_have_values fields) cells next live wild l
   unlooked (shape.enum h cases) cells next live wild l = unlooked_cases cases zero cells next live wild l
 
   unlooked_cases : (cases : Payloads) (k : ℕ) (cells : List TPat) (next : Later) (live : List Bool) → AllWild live cells → length live ≤ length cells
@@ -236,7 +237,7 @@ before_none None = refl
 before_none (Some f) = refl
 
 mutual
-  pub first_none : (s : Shape) (cells : List TPat) → inhabited s ≡ false → first_form s cells ≡ None
+  pub first_none : (s : Shape) (cells : List TPat) → has_value s ≡ false → first_form s cells ≡ None
   first_none shape.number cells e = false_true (sym e)
   first_none shape.truth cells e = false_true (sym e)
   first_none shape.no_value cells e = false_true (sym e)
@@ -244,15 +245,15 @@ mutual
   first_none (shape.struct h fields) cells e = ap any_where e
   first_none (shape.enum h cases) cells e = case_none cases zero cells e
 
-  case_none : (cases : Payloads) (k : ℕ) (cells : List TPat) → one_inhabited cases ≡ false → first_case cases k cells ≡ None
+  case_none : (cases : Payloads) (k : ℕ) (cells : List TPat) → one_has_values cases ≡ false → first_case cases k cells ≡ None
   case_none no_payloads k cells e = refl
   case_none (payloads ss cases) k cells e =
-      ap (λ r. or_form (case_with k r) (first_case cases (suc k) cells)) (forms_none ss k zero cells (or_first (all_inhabited ss) (one_inhabited cases) e)) ∙ case_none cases (suc k) cells (or_second (all_inhabited ss) (one_inhabited cases) e)
+      ap (λ r. or_form (case_with k r) (first_case cases (suc k) cells)) (forms_none ss k zero cells (or_first (all_have_values ss) (one_has_values cases) e)) ∙ case_none cases (suc k) cells (or_second (all_have_values ss) (one_has_values cases) e)
 
-  pub forms_none : (ss : Shapes) (k i : ℕ) (cells : List TPat) → all_inhabited ss ≡ false → first_forms ss k i cells ≡ None
+  pub forms_none : (ss : Shapes) (k i : ℕ) (cells : List TPat) → all_have_values ss ≡ false → first_forms ss k i cells ≡ None
   forms_none no_shapes k i cells e = false_true (sym e)
   forms_none (shape.shape s ss) k i cells e =
-      by_parts (inhabited s) (all_inhabited ss) e (λ a. ap (λ f. form_before f (first_forms ss k (suc i) cells)) (first_none s (inside k i cells) a))
+      by_parts (has_value s) (all_have_values ss) e (λ a. ap (λ f. form_before f (first_forms ss k (suc i) cells)) (first_none s (inside k i cells) a))
       (λ b. ap (form_before (first_form s (inside k i cells))) (forms_none ss k (suc i) cells b) ∙ before_none (first_form s (inside k i cells)))
 
 -- ---- weights
@@ -295,7 +296,7 @@ by_either true b e j k = j refl
 by_either false b e j k = k e
 
 mutual
-  first_some : (s : Shape) (cells : List TPat) → inhabited s ≡ true → HasSome (first_form s cells)
+  first_some : (s : Shape) (cells : List TPat) → has_value s ≡ true → HasSome (first_form s cells)
   first_some shape.number cells e = (least_of (rising cells), refl)
   first_some shape.truth cells e = (of_truth false, refl)
   first_some shape.no_value cells e = (any, refl)
@@ -303,21 +304,21 @@ mutual
   first_some (shape.struct h fields) cells e = (any, ap any_where e)
   first_some (shape.enum h cases) cells e = some_case cases zero cells e
 
-  some_case : (cases : Payloads) (k : ℕ) (cells : List TPat) → one_inhabited cases ≡ true → HasSome (first_case cases k cells)
+  some_case : (cases : Payloads) (k : ℕ) (cells : List TPat) → one_has_values cases ≡ true → HasSome (first_case cases k cells)
   some_case no_payloads k cells e = false_true e
   some_case (payloads ss cases) k cells e =
-      by_either (all_inhabited ss) (one_inhabited cases) e
+      by_either (all_have_values ss) (one_has_values cases) e
       (λ a. first_some_or (case_with k (first_forms ss k zero cells)) (first_case cases (suc k) cells) (case_some k (first_forms ss k zero cells) (forms_some ss k zero cells a)))
       (λ b. or_some (case_with k (first_forms ss k zero cells)) (first_case cases (suc k) cells) (some_case cases (suc k) cells b))
 
-  pub forms_some : (ss : Shapes) (k i : ℕ) (cells : List TPat) → all_inhabited ss ≡ true → HasSome (first_forms ss k i cells)
+  pub forms_some : (ss : Shapes) (k i : ℕ) (cells : List TPat) → all_have_values ss ≡ true → HasSome (first_forms ss k i cells)
   forms_some no_shapes k i cells e = (no_pats, refl)
   forms_some (shape.shape s ss) k i cells e =
-      by_both (inhabited s) (all_inhabited ss) e (λ a b. both_some (first_form s (inside k i cells)) (first_forms ss k (suc i) cells) (first_some s (inside k i cells) a) (forms_some ss k (suc i) cells b))
+      by_both (has_value s) (all_have_values ss) e (λ a b. both_some (first_form s (inside k i cells)) (first_forms ss k (suc i) cells) (first_some s (inside k i cells) a) (forms_some ss k (suc i) cells b))
 
 -- a case with a value that no live pattern mentions gives the answer
 pub case_before_others : (k : ℕ) (ss : Shapes) (cells : List TPat) (next : Later) (live : List Bool) (others : TPats) (later : Option TPats)
-    → is_mentioned (head.Case k) live cells ≡ false → all_inhabited ss ≡ true → Some others ≡ next (narrowed head.Other live cells)
+    → is_mentioned (head.Case k) live cells ≡ false → all_have_values ss ≡ true → Some others ≡ next (narrowed head.Other live cells)
     → or_else (gathered k (count ss) (gap_in_payloads ss k zero cells next (narrowed (head.Case k) live cells))) later ≡ form_before (case_with k (first_forms ss k zero cells)) (Some others)
 case_before_others k ss cells next live others later silent full e =
     let r = case_some k (first_forms ss k zero cells) (forms_some ss k zero cells full) in

@@ -9,7 +9,8 @@ use Rattle.own_table.specs.declared.table.TypeTable.{TypeTable}
 use Rattle.own_shapes.specs.Types.{Shape, Shapes, shapes_of, payloads_of, case_types}
 use Rattle.own_match.specs.declared.column.Column.{Column as Held}
 use Rattle.own_match.specs.declared.head.Head.TheVariants as head
-use Rattle.own_match.specs.Search.{all_inhabited, narrowed, is_mentioned, or_else, led, gathered, count, Later, gap_in_numbers, gap_in_cases, gap_in_payloads, gap_columns, payload_columns}
+use Rattle.own_table.specs.HasValue.{all_have_values}
+use Rattle.own_match.specs.Search.{narrowed, is_mentioned, or_else, led, gathered, count, Later, gap_in_numbers, gap_in_cases, gap_in_payloads, gap_columns, payload_columns}
 use Rattle.own_match.specs.First.{case_with, form_before, first_forms}
 use Rattle.own_match.specs.View.{said_all, columns_held, gap_in_case, AreTyped, AreTypes}
 use Rattle.own_match.specs.Weights.{weights, columns_weight}
@@ -38,7 +39,7 @@ module _ (shape_of : Ty → Shape) (cs : List CaseInfo) (i : ℕ) (c : CaseInfo)
   pub case_here : (fs : TPats) → its_gap i ≡ Some fs → gap_in_cases (payloads_of shape_of (case_types (drop i cs))) i cells next live ≡ Some fs
   case_here fs found = here_or_later ∙ ap (λ r. or_else r (gap_in_cases (payloads_of shape_of (case_types (drop (i + 1) cs))) (i + 1) cells next live)) found
 
-  pub silent_case : (k : ℕ) (others : TPats) → k ≡ i → is_mentioned (head.Case k) live cells ≡ false → all_inhabited its ≡ true → Some others ≡ next (narrowed head.Other live cells)
+  pub silent_case : (k : ℕ) (others : TPats) → k ≡ i → is_mentioned (head.Case k) live cells ≡ false → all_have_values its ≡ true → Some others ≡ next (narrowed head.Other live cells)
       → form_before (case_with k (first_forms its k 0 cells)) (Some others) ≡ gap_in_cases (payloads_of shape_of (case_types (drop i cs))) i cells next live
   silent_case k others same silent full e =
       ap (λ k. form_before (case_with k (first_forms its k 0 cells)) (Some others)) same

@@ -3,8 +3,9 @@ use Rattle.std.specs.Prelude.{ℕ, zero, suc, ℤ, Bool, true, false, List, [], 
 use Rattle.own_tree.specs.TypedSource.{TPat, any, of_case, of_number, of_truth, TPats, no_pats, pat}
 use Rattle.own_shapes.specs.Types.{Shape, Shapes, no_shapes, Payloads, no_payloads, payloads}
 use Rattle.own_shapes.specs.Types as shape
+use Rattle.own_table.specs.HasValue.{all_have_values}
 use Rattle.own_match.specs.Forms.{inside}
-use Rattle.own_match.specs.Search.{all_inhabited, rising, Column}
+use Rattle.own_match.specs.Search.{rising, Column}
 
 -- the first literal, or a number that is none
 abbrev pub least_of : List ℤ → TPat
@@ -34,7 +35,7 @@ abbrev mutual
   first_form shape.truth cells = Some (of_truth false)
   first_form shape.no_value cells = Some any
   first_form shape.closure cells = Some any
-  first_form (shape.struct h fields) cells = any_where (all_inhabited fields)
+  first_form (shape.struct h fields) cells = any_where (all_have_values fields)
   first_form (shape.enum h cases) cells = first_case cases zero cells
 
   -- from case k on

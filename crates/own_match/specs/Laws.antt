@@ -1,14 +1,19 @@
 -- What is proved of these definitions, for contracts to cite.
-use Rattle.std.specs.Prelude.{◌≡◌, ℕ, ◌<◌, ◌≤◌, ◌⊎◌, List}
+use Rattle.std.specs.Prelude.{◌≡◌, ◌↔◌, ℕ, ◌<◌, ◌≤◌, ◌⊎◌, true, List}
 use Rattle.own_tree.specs.TypedSource.{TPat}
 use Rattle.own_tree.specs.declared.limits.TheConstants.{MOST_TYPE_SLOTS}
 use Rattle.own_tree.specs.declared.place.Ty.TheVariants as type
 use Rattle.own_table.specs.declared.table.TypeTable.{TypeTable}
 use Rattle.own_table.specs.Table.{types_in, shape_in_table}
 use Rattle.own_shapes.specs.Types.{Shape}
+use Rattle.own_table.specs.HasValue.{has_value}
 use Rattle.own_match.specs.Weights.{weight}
 use Rattle.own_match.specs.Values.{Val, IsOf}
 use Rattle.own_match.specs.Forms.{IsForm, StandsFor, ComesBefore, IsMissing, IsFirst}
+
+-- the types that are said to have a value are those that have one
+abbrev pub HasValueIsExact : Type 0
+HasValueIsExact = (s : Shape) → has_value s ≡ true ↔ ((v : Val) × IsOf s v)
 
 -- each value of a type has a form that stands for it
 abbrev pub ValuesHaveForms : Type 0

@@ -2,7 +2,6 @@ pub mod Values
 pub mod Forms
 pub mod Search
 pub mod View
-pub mod Inhabited
 pub mod Weights
 pub mod First
 pub mod Answers

@@ -7,27 +7,15 @@ use Rattle.std.specs.BTreeSet.{insert_key}
 use Rattle.own_tree.specs.TypedSource.{TPat, any, bind, of_case, of_number, of_truth, TPats, no_pats, pat}
 use Rattle.own_shapes.specs.Types.{Shape, Shapes, no_shapes, Payloads, no_payloads, payloads}
 use Rattle.own_shapes.specs.Types as shape
+use Rattle.own_table.specs.HasValue.{all_have_values}
 use Rattle.own_match.specs.declared.head.Head.{Head}
 use Rattle.own_match.specs.declared.head.Head.TheVariants as head
 use Rattle.own_match.specs.Forms.{inside}
 
--- the type has a value
-abbrev mutual
-  pub inhabited : Shape → Bool
-  inhabited shape.number = true
-  inhabited shape.truth = true
-  inhabited shape.no_value = true
-  inhabited shape.closure = true
-  inhabited (shape.struct h fields) = all_inhabited fields
-  inhabited (shape.enum h cases) = one_inhabited cases
-
-  pub all_inhabited : Shapes → Bool
-  all_inhabited no_shapes = true
-  all_inhabited (shape.shape s ss) = inhabited s && all_inhabited ss
-
-  pub one_inhabited : Payloads → Bool
-  one_inhabited no_payloads = false
-  one_inhabited (payloads ss cases) = all_inhabited ss || one_inhabited cases
+-- what the patterns say at one place, whose type has that shape
+pub record Column : Type 0 where
+  pub shape : Shape
+  pub cells : List TPat
 
 -- the pattern matches some value that begins so
 abbrev pub accepts : Head → TPat → Bool
@@ -49,22 +37,69 @@ abbrev pub is_mentioned : Head → List Bool → List TPat → Bool
 is_mentioned h (l ∷ live) (p ∷ cells) = (l && (accepts h p && not (accepts head.Other p))) || is_mentioned h live cells
 is_mentioned h live cells = false
 
--- pattern i says nothing at the place of a column
-abbrev pub is_silent : Option TPat → Bool
-is_silent None = false
-is_silent (Some p) = accepts head.Other p
+-- ---- patterns that match all values
 
-abbrev pub is_silent_at : ℕ → List TPat → Bool
-is_silent_at i cells = is_silent (slice_get cells i)
+-- no case but number c has a value, of those from number k on
+abbrev pub no_others : ℕ → ℕ → Payloads → Bool
+no_others c k no_payloads = true
+no_others c k (payloads ss cases) = (k == c || not (all_have_values ss)) && no_others c (suc k) cases
 
--- nor at any of these columns
-abbrev pub says_nothing : ℕ → List (List TPat) → Bool
+-- case c of an enum, no other case of which has a value
+abbrev pub is_only_case : Shape → ℕ → Bool
+is_only_case shape.number c = false
+is_only_case shape.truth c = false
+is_only_case shape.no_value c = false
+is_only_case shape.closure c = false
+is_only_case (shape.struct h fields) c = false
+is_only_case (shape.enum h cases) c = no_others c zero cases
+
+abbrev pub payloads_at : Payloads → ℕ → Shapes
+payloads_at no_payloads c = no_shapes
+payloads_at (payloads ss cases) zero = ss
+payloads_at (payloads ss cases) (suc c) = payloads_at cases c
+
+-- the payloads of case c, where the type has it
+abbrev pub case_payloads : Shape → ℕ → Shapes
+case_payloads shape.number c = no_shapes
+case_payloads shape.truth c = no_shapes
+case_payloads shape.no_value c = no_shapes
+case_payloads shape.closure c = no_shapes
+case_payloads (shape.struct h fields) c = no_shapes
+case_payloads (shape.enum h cases) c = payloads_at cases c
+
+-- The pattern matches all values of the type: it is `_` or a name, or the only case that has a value, and each part
+-- matches all values of its payload.
+abbrev mutual
+  pub matches_all : Shape → TPat → Bool
+  matches_all s any = true
+  matches_all s (bind x) = true
+  matches_all s (of_case c ps) = is_only_case s c && parts_match_all (case_payloads s c) ps
+  matches_all s (of_number n) = false
+  matches_all s (of_truth b) = false
+
+  pub parts_match_all : Shapes → TPats → Bool
+  parts_match_all ss no_pats = true
+  parts_match_all no_shapes (pat p ps) = true
+  parts_match_all (shape.shape s ss) (pat p ps) = matches_all s p && parts_match_all ss ps
+
+-- pattern i does so at the place of a column
+abbrev pub is_silent : Shape → Option TPat → Bool
+is_silent s None = false
+is_silent s (Some p) = matches_all s p
+
+abbrev pub is_silent_at : ℕ → Column → Bool
+is_silent_at i c = is_silent c.shape (slice_get c.cells i)
+
+-- at each of these columns
+abbrev pub says_nothing : ℕ → List Column → Bool
 says_nothing i columns = list_all (is_silent_at i) columns
 
--- a live pattern, of those from number i on, says nothing at any of these columns
-abbrev pub one_is_silent : ℕ → List (List TPat) → List Bool → Bool
+-- a live pattern, of those from number i on, does so
+abbrev pub one_is_silent : ℕ → List Column → List Bool → Bool
 one_is_silent i columns [] = false
 one_is_silent i columns (l ∷ live) = (l && says_nothing i columns) || one_is_silent (suc i) columns live
+
+-- ---- the search
 
 -- these literals and those of a column, in rising order
 abbrev pub rising_onto : List ℤ → List TPat → List ℤ
@@ -120,11 +155,6 @@ abbrev pub gap_where : Bool → List TPat → Later → List Bool → Option TPa
 gap_where false cells next live = None
 gap_where true cells next live = led any (next (narrowed head.Other live cells))
 
--- what the patterns say at one place, whose type has that shape
-pub record Column : Type 0 where
-  pub shape : Shape
-  pub cells : List TPat
-
 -- the columns of the payloads of case k from number i on
 abbrev pub payload_columns : Shapes → ℕ → ℕ → List TPat → List Column
 payload_columns no_shapes k i cells = []
@@ -137,7 +167,7 @@ abbrev mutual
   gap shape.truth cells next live = gap_in_truths cells next live
   gap shape.no_value cells next live = gap_where true cells next live
   gap shape.closure cells next live = gap_where true cells next live
-  gap (shape.struct h fields) cells next live = gap_where (all_inhabited fields) cells next live
+  gap (shape.struct h fields) cells next live = gap_where (all_have_values fields) cells next live
   gap (shape.enum h cases) cells next live = gap_in_cases cases zero cells next live
 
   -- from case k on

@@ -29,10 +29,6 @@ column_held shape c = record { shape = shape c.ty; cells = said_all c.cells.item
 abbrev pub columns_held : (Ty → Shape) → List Held → List Column
 columns_held shape cs = map (column_held shape) cs
 
--- what the patterns say at each of these columns
-abbrev pub cells_of : List Held → List (List TPat)
-cells_of cs = map (λ c. said_all c.cells.items) cs
-
 -- forms that were found
 abbrev pub forms_held : {Z : Type 0} → Option (Vec TPattern Z) → Option TPats
 forms_held None = None

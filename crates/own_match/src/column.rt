@@ -4,9 +4,9 @@ ghost use Rattle.std.specs.Prelude.{◌≡◌, IfOk, map};
 ghost use Rattle.own_table.specs.Table.{shape_in_table};
 ghost use Rattle.own_shapes.specs.Types.{shapes_of};
 ghost use Rattle.own_tree.specs.TypedView.{pattern_view};
-ghost use Rattle.own_match.specs.View.{said, said_all, cells_of, columns_held};
+ghost use Rattle.own_match.specs.View.{said, said_all, columns_held};
 ghost use Rattle.own_match.specs.Forms.{part, inside};
-ghost use Rattle.own_match.specs.Search.{narrowed, rising, payload_columns, is_mentioned, is_silent_at, says_nothing, one_is_silent};
+ghost use Rattle.own_match.specs.Search.{narrowed, rising, payload_columns, is_mentioned};
 
 use crate::head::{Head, accepts};
 use own_table::TypeTable;
@@ -113,40 +113,6 @@ pub fn is_mentioned(live: &[bool], cells: &[Option<&TPattern>], head: Head) -> b
 {
     for (live, cell) in live.iter().zip(cells) {
         if *live && accepts(head, *cell) && !accepts(Head::Other, *cell) {
-            return true;
-        }
-    }
-    false
-}
-
-/// Whether a pattern says nothing at the place of a column.
-fn is_silent(column: &Column<'_>, number: usize) -> bool
-    ensures { result ≡ is_silent_at number (said_all column.now.cells.items) }
-{
-    match column.cells.get(number) {
-        Some(cell) => accepts(Head::Other, *cell),
-        None => false,
-    }
-}
-
-/// Whether it says nothing at any of these columns.
-fn says_nothing(todo: &[Column<'_>], number: usize) -> bool
-    ensures { result ≡ says_nothing number (cells_of todo.now) }
-{
-    for column in todo {
-        if !is_silent(column, number) {
-            return false;
-        }
-    }
-    true
-}
-
-/// Whether a live pattern says nothing at any of these columns.
-pub fn one_is_silent(todo: &[Column<'_>], live: &[bool]) -> bool
-    ensures { result ≡ one_is_silent 0 (cells_of todo.now) live.now }
-{
-    for (number, is_live) in live.iter().enumerate() {
-        if *is_live && says_nothing(todo, number) {
             return true;
         }
     }

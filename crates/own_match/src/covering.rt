@@ -8,7 +8,6 @@ ghost use Rattle.own_match.specs.Values.{Covers};
 ghost use Rattle.own_match.specs.View.{said_all, forms_held};
 
 use crate::column::Column;
-use crate::inhabited::inhabited_types;
 use crate::search::Search;
 use own_table::TypeTable;
 use own_tree::{Cover, TPattern, Ty};
@@ -55,14 +54,9 @@ fn missing_form(
     ensures { IfOk result (λ form. single form
         ≡ gap (shape_in_table table.now ty) (map pattern_view patterns.now) gap_end (replicate (length patterns.now) true)) }
 {
-    let inhabited = inhabited_types(alloc, table)?;
     let cells = whole_cells(alloc, patterns)?;
     let live = all_live(alloc, patterns.len())?;
-    let search = Search {
-        alloc,
-        table,
-        inhabited: inhabited.as_slice(),
-    };
+    let search = Search { alloc, table };
     match search.first_gap(&[Column { ty, cells }], live.as_slice())? {
         Some(forms) => Ok(only_form(forms)),
         None => Ok(None),

@@ -1,6 +1,11 @@
 //! Laws of the definitions. Each function does nothing; its contract is the law.
 
-ghost use Rattle.own_match.specs.Laws.{FirstMissingIsOne, FormsAreApart, FormsAreOrdered, FormsAreSmall, ValuesHaveForms};
+ghost use Rattle.own_match.specs.Laws.{FirstMissingIsOne, FormsAreApart, FormsAreOrdered, FormsAreSmall, HasValueIsExact, ValuesHaveForms};
+
+/// The types that are said to have a value are those that have one.
+pub fn has_value_is_exact()
+    ensures { HasValueIsExact }
+{}
 
 /// Each value of a type has a form that stands for it.
 pub fn values_have_forms()

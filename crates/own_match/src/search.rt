@@ -7,25 +7,24 @@ ghost use Rattle.own_table.specs.Table.{types_in, shape_in_table, IsTypeIn};
 ghost use Rattle.own_shapes.specs.Types.{shapes_of};
 ghost use Rattle.own_match.specs.declared.head.Head.TheVariants as head;
 ghost use Rattle.own_match.specs.First.{case_with, form_before, least_of, first_form, first_forms};
-ghost use Rattle.own_match.specs.Inhabited.{AreInhabited};
 ghost use Rattle.own_match.specs.Search.{narrowed, rising, led, gap_in_numbers, gap_in_truths, gap_columns};
 ghost use Rattle.own_match.specs.View.{said_all, columns_held, form_held, forms_held, rest_of, gap_from, gap_in_case, AreTyped, IsCase};
 
-use crate::column::{Column, is_mentioned, literals, narrowed, one_is_silent, payload_columns};
+use crate::column::{Column, is_mentioned, literals, narrowed, payload_columns};
 use crate::found::{gap_at_end, gather, joined, put_first};
 use crate::head::Head;
-use crate::inhabited::{all_have_values, has_value};
+use crate::silent::one_is_silent;
+use crate::values::all_have_values;
 use own_table::{CaseInfo, TypeTable};
 use own_tree::{TPattern, Ty};
 use sqlite_items::Items;
 use std::alloc::{AllocError, Global};
 
-/// What the search goes by: the types, and for each declared one whether it has a value.
+/// What the search goes by.
 #[derive(Clone, Copy)]
 pub struct Search<'t> {
     pub alloc: Global,
     pub table: &'t TypeTable,
-    pub inhabited: &'t [bool],
 }
 
 /// The least number, or `_` where there is none.
@@ -42,7 +41,6 @@ impl Search<'_> {
     /// The first form of the type of a column, where it has a value and no live pattern says anything.
     #[cycle(first)]
     fn first_form(&self, column: &Column<'_>) -> Result<Option<TPattern>, AllocError>
-        requires known { AreInhabited (types_in self.now.table.now) self.now.inhabited.now }
         requires typed { IsTypeIn self.now.table.now column.now.ty }
         ensures { IfOk result (λ form. form_held form ≡ first_form (shape_in_table self.now.table.now column.now.ty) (said_all column.now.cells.items)) }
     {
@@ -56,7 +54,7 @@ impl Search<'_> {
             Ty::Named(_) => {
                 if self.table.is_enum(column.ty) {
                     self.first_case(column)
-                } else if has_value(self.inhabited, column.ty) {
+                } else if self.table.has_value(column.ty) {
                     Ok(Some(TPattern::Any))
                 } else {
                     Ok(None)
@@ -68,17 +66,13 @@ impl Search<'_> {
     /// That of an enum.
     #[cycle(first)]
     fn first_case(&self, column: &Column<'_>) -> Result<Option<TPattern>, AllocError>
-        requires known { AreInhabited (types_in self.now.table.now) self.now.inhabited.now }
         requires typed { IsTypeIn self.now.table.now column.now.ty }
         requires is_enum { (types_in self.now.table.now).is_enum column.now.ty ≡ true }
         ensures { IfOk result (λ form. form_held form ≡ first_form (shape_in_table self.now.table.now column.now.ty) (said_all column.now.cells.items)) }
     {
         for (at, info) in self.table.cases(column.ty).iter().enumerate() {
-            if all_have_values(self.inhabited, info.payloads.as_slice()) {
-                // An enum has far fewer cases (M5), so that its number is always one.
-                let Ok(case) = u32::try_from(at) else {
-                    return Err(AllocError);
-                };
+            if all_have_values(self.table, info.payloads.as_slice()) {
+                let case = at as u32;
                 if let Some(form) = self.first_of_case(case, info, column)? {
                     return Ok(Some(form));
                 }
@@ -95,7 +89,6 @@ impl Search<'_> {
         info: &CaseInfo,
         column: &Column<'_>,
     ) -> Result<Option<TPattern>, AllocError>
-        requires known { AreInhabited (types_in self.now.table.now) self.now.inhabited.now }
         requires typed { IsTypeIn self.now.table.now column.now.ty }
         requires case_is { IsCase self.now.table.now column.now.ty case info.now }
         ensures { IfOk result (λ form. form_held form
@@ -126,7 +119,6 @@ impl Search<'_> {
         column: &Column<'_>,
         others: Vec<TPattern>,
     ) -> Result<Option<Vec<TPattern>>, AllocError>
-        requires known { AreInhabited (types_in self.now.table.now) self.now.inhabited.now }
         requires typed { IsTypeIn self.now.table.now column.now.ty }
         requires case_is { IsCase self.now.table.now column.now.ty case info.now }
         ensures { IfOk result (λ gap. forms_held gap
@@ -146,12 +138,11 @@ impl Search<'_> {
         todo: &[Column<'_>],
         live: &[bool],
     ) -> Result<Option<Vec<TPattern>>, AllocError>
-        requires known { AreInhabited (types_in self.now.table.now) self.now.inhabited.now }
         requires typed { AreTyped self.now.table.now todo.now }
         ensures { IfOk result (λ gap. forms_held gap ≡ gap_columns (columns_held (shape_in_table self.now.table.now) todo.now) live.now) }
     {
         match todo.split_first() {
-            Some(_) if one_is_silent(todo, live) => Ok(None),
+            Some(_) if one_is_silent(self.table, todo, live) => Ok(None),
             Some((column, rest)) => self.gap_at(column, rest, live),
             None => Ok(gap_at_end(self.alloc, live)),
         }
@@ -165,7 +156,6 @@ impl Search<'_> {
         rest: &[Column<'p>],
         live: &[bool],
     ) -> Result<Option<Vec<TPattern>>, AllocError>
-        requires known { AreInhabited (types_in self.now.table.now) self.now.inhabited.now }
         requires typed { IsTypeIn self.now.table.now column.now.ty }
         requires rest_typed { AreTyped self.now.table.now rest.now }
         ensures { IfOk result (λ gap. forms_held gap
@@ -178,7 +168,7 @@ impl Search<'_> {
             Ty::Named(_) => {
                 if self.table.is_enum(column.ty) {
                     self.gap_in_cases(column, rest, live)
-                } else if has_value(self.inhabited, column.ty) {
+                } else if self.table.has_value(column.ty) {
                     self.under(Head::Other, TPattern::Any, column, rest, live)
                 } else {
                     Ok(None)
@@ -196,7 +186,6 @@ impl Search<'_> {
         rest: &[Column<'p>],
         live: &[bool],
     ) -> Result<Option<Vec<TPattern>>, AllocError>
-        requires known { AreInhabited (types_in self.now.table.now) self.now.inhabited.now }
         requires rest_typed { AreTyped self.now.table.now rest.now }
         ensures { IfOk result (λ gap. forms_held gap
             ≡ gap_in_numbers (rising (said_all column.now.cells.items)) (said_all column.now.cells.items) (rest_of (shape_in_table self.now.table.now) rest.now) live.now) }
@@ -223,7 +212,6 @@ impl Search<'_> {
         rest: &[Column<'p>],
         live: &[bool],
     ) -> Result<Option<Vec<TPattern>>, AllocError>
-        requires known { AreInhabited (types_in self.now.table.now) self.now.inhabited.now }
         requires rest_typed { AreTyped self.now.table.now rest.now }
         ensures { IfOk result (λ gap. forms_held gap
             ≡ gap_in_truths (said_all column.now.cells.items) (rest_of (shape_in_table self.now.table.now) rest.now) live.now) }
@@ -251,7 +239,6 @@ impl Search<'_> {
         rest: &[Column<'p>],
         live: &[bool],
     ) -> Result<Option<Vec<TPattern>>, AllocError>
-        requires known { AreInhabited (types_in self.now.table.now) self.now.inhabited.now }
         requires typed { IsTypeIn self.now.table.now column.now.ty }
         requires is_enum { (types_in self.now.table.now).is_enum column.now.ty ≡ true }
         requires rest_typed { AreTyped self.now.table.now rest.now }
@@ -259,11 +246,8 @@ impl Search<'_> {
             ≡ gap_from (shape_in_table self.now.table.now) column.now rest.now live.now) }
     {
         for (at, info) in self.table.cases(column.ty).iter().enumerate() {
-            if all_have_values(self.inhabited, info.payloads.as_slice()) {
-                // An enum has far fewer cases (M5), so that its number is always one.
-                let Ok(case) = u32::try_from(at) else {
-                    return Err(AllocError);
-                };
+            if all_have_values(self.table, info.payloads.as_slice()) {
+                let case = at as u32;
                 if !is_mentioned(live, column.cells.as_slice(), Head::Case(case)) {
                     return self.gap_in_others(case, info, column, rest, live);
                 }
@@ -285,7 +269,6 @@ impl Search<'_> {
         rest: &[Column<'p>],
         live: &[bool],
     ) -> Result<Option<Vec<TPattern>>, AllocError>
-        requires known { AreInhabited (types_in self.now.table.now) self.now.inhabited.now }
         requires typed { IsTypeIn self.now.table.now column.now.ty }
         requires case_is { IsCase self.now.table.now column.now.ty case info.now }
         requires rest_typed { AreTyped self.now.table.now rest.now }
@@ -310,7 +293,6 @@ impl Search<'_> {
         rest: &[Column<'p>],
         live: &[bool],
     ) -> Result<Option<Vec<TPattern>>, AllocError>
-        requires known { AreInhabited (types_in self.now.table.now) self.now.inhabited.now }
         requires rest_typed { AreTyped self.now.table.now rest.now }
         ensures { IfOk result (λ gap. forms_held gap
             ≡ led (pattern_view form) (rest_of (shape_in_table self.now.table.now) rest.now (narrowed head live.now (said_all column.now.cells.items)))) }
@@ -332,7 +314,6 @@ impl Search<'_> {
         rest: &[Column<'p>],
         live: &[bool],
     ) -> Result<Option<Vec<TPattern>>, AllocError>
-        requires known { AreInhabited (types_in self.now.table.now) self.now.inhabited.now }
         requires typed { IsTypeIn self.now.table.now column.now.ty }
         requires case_is { IsCase self.now.table.now column.now.ty case info.now }
         requires rest_typed { AreTyped self.now.table.now rest.now }

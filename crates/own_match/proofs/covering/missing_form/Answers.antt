@@ -6,5 +6,5 @@ use Rattle.own_match.proofs.covering.missing_form.Goals as goal
 
 pub only_form-requires : goal.only_form-requires
 only_form-requires c =
-    one_form (shape_in_table c.args.table.now c.args.ty) (said_all c.in_ok-cells.cells.items) c.as_slice-2.result.now c.in-Some.forms.items
+    one_form (shape_in_table c.args.table.now c.args.ty) (said_all c.in_ok-cells.cells.items) c.as_slice.result.now c.in-Some.forms.items
     (sym (ap (forms_held {Z = Global}) c.in-Some.is) ∙ c.in_ok-forms.ensures)

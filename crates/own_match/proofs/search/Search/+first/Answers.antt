@@ -4,16 +4,16 @@ use Rattle.own_tree.specs.TypedView.{pats_of, pattern_view}
 use Rattle.own_table.specs.Table.{shape_in_table}
 use Rattle.own_shapes.specs.Types.{shapes_of, payloads_of, case_types}
 use Rattle.own_match.specs.declared.column.Column.{Column as Held}
-use Rattle.own_match.specs.Inhabited.{all_have_values}
-use Rattle.own_match.specs.Search.{all_inhabited, payload_columns}
+use Rattle.own_table.specs.HasValue.{all_have_values}
+use Rattle.own_match.specs.Search.{payload_columns}
 use Rattle.own_match.specs.First.{case_with, first_forms, first_case, first_of_columns}
 use Rattle.own_match.specs.View.{said_all, columns_held, form_held, forms_and, AreTypes}
 use Rattle.own_match.specs.Weights.{weight, weights}
-use Rattle.own_match.proofs.Enums.{first_enum, values_are, case_types_in, case_weight, type_in, part_weight, first_columns, forms_all, drop_past, got, first_step, none_found, found_more, column_type, case_at}
+use Rattle.own_match.proofs.Enums.{first_enum, case_types_in, case_weight, type_in, part_weight, first_columns, forms_all, drop_past, got, first_step, none_found, found_more, column_type, case_at}
 use Rattle.own_match.proofs.Patterns.{case_view}
 use Rattle.own_match.proofs.Steps.{forms_none}
 use Rattle.own_match.proofs.search.Search.+first.Goals as goal
-use Rattle.own_match.proofs.search.Search.+first.Goals.{first_case-then-all_have_values+in-Ok+in_ok-form+in_default-2, first_case-else-all_have_values}
+use Rattle.own_match.proofs.search.Search.+first.Goals.{first_case-then-all_have_values+in_ok-form+in_default, first_case-else-all_have_values}
 
 pub first_case-loop-at-init : goal.first_case-loop-at-init
 first_case-loop-at-init t c =
@@ -26,7 +26,17 @@ pub first_case-first_of_case-requires : goal.first_case-first_of_case-requires
 first_case-first_of_case-requires t c =
     let items = c.cases-info-items.result.now in
     let at : slice_get items c.loop-at.at ≡ Some c.info-item.result = got items c.loop-at.at c.info-item.result c.loop-at-test.true c.info-item.is in
-    (omega (arith, c.decreases), (c.requires.known, (c.requires.typed, (c.requires.is_enum, case_at c.args.self.now.table.now c.args.column.now.ty items c.loop-at.at c.in-Ok.case c.info-item.result c.cases-info-items.ensures c.in-Ok.ensures.1 at))))
+    (omega (arith, c.decreases), (c.requires.typed, (c.requires.is_enum, case_at c.args.self.now.table.now c.args.column.now.ty items c.loop-at.at c.loop-at.at c.info-item.result c.cases-info-items.ensures refl at)))
+
+pub first_case-all_have_values-requires : goal.first_case-all_have_values-requires
+first_case-all_have_values-requires t c =
+    let table = c.args.self.now.table.now in
+    let items = c.cases-info-items.result.now in
+    let info = c.info-item.result in
+    let i = c.loop-at.at in
+    let at : slice_get items i ≡ Some info = got items i info c.loop-at-test.true c.info-item.is in
+    subst (AreTypes table) (sym c.as_slice.ensures)
+    (case_types_in table c.args.column.now.ty i info c.requires.typed (c.requires.is_enum, case_at table c.args.column.now.ty items i i info c.cases-info-items.ensures refl at))
 
 pub first_case-loop-at-preserved : goal.first_case-loop-at-preserved
 first_case-loop-at-preserved t c =
@@ -37,12 +47,10 @@ first_case-loop-at-preserved t c =
     let i = c.loop-at.at in
     let at : slice_get items i ≡ Some info = got items i info c.loop-at-test.true c.info-item.is in
     let none : case_with i (first_forms (shapes_of (shape_in_table table) info.payloads) i 0 cells) ≡ None = elim c.if-all_have_values.branch [
-      | first_case-then-all_have_values+in-Ok+in_ok-form+in_default-2 w ↦ subst (λ k. case_with k (first_forms (shapes_of (shape_in_table table) info.payloads) k 0 cells) ≡ None) w.in-Ok.ensures.1 (sym w.in_ok-form.ensures ∙ ap form_held w.in_default-2.is)
+      | first_case-then-all_have_values+in_ok-form+in_default w ↦ sym w.in_ok-form.ensures ∙ ap form_held w.in_default.is
       | first_case-else-all_have_values w ↦
-          let typed : AreTypes table info.payloads = case_types_in table c.args.column.now.ty i info c.requires.typed (c.requires.is_enum, case_at table c.args.column.now.ty items i i info c.cases-info-items.ensures refl at) in
-          let known = c.args.self.now.inhabited.now in
-          let empty : all_inhabited (shapes_of (shape_in_table table) info.payloads) ≡ false =
-          sym (values_are table known c.requires.known info.payloads typed) ∙ ap (all_have_values known) (sym c.as_slice.ensures) ∙ sym c.all_have_values.ensures ∙ w.if-all_have_values.false in
+          let empty : all_have_values (shapes_of (shape_in_table table) info.payloads) ≡ false =
+          ap (λ tys. all_have_values (shapes_of (shape_in_table table) tys)) (sym c.as_slice.ensures) ∙ sym c.all_have_values.ensures ∙ w.if-all_have_values.false in
           ap (case_with i) (forms_none (shapes_of (shape_in_table table) info.payloads) i 0 cells empty)
     ] in
     sym (first_step (shape_in_table table) cells items i info at none) ∙ c.loop-at.invariant
@@ -59,7 +67,7 @@ first_of_case-first_form-requires t c =
     let typed : AreTypes table tys = case_types_in table c.args.column.now.ty c.args.case c.args.info.now c.requires.typed c.requires.case_is in
     let less : weights (shapes_of (shape_in_table table) tys) < weight (shape_in_table table c.args.column.now.ty) = case_weight table c.args.column.now.ty c.args.case c.args.info.now c.requires.typed c.requires.case_is in
     let part : weight (shape_in_table table c.column-item.result.ty) ≤ weights (shapes_of (shape_in_table table) tys) = part_weight table tys i c.column-item.result.ty one in
-    (omega (arith, c.decreases, less, part), (c.requires.known, type_in table tys i c.column-item.result.ty typed one))
+    (omega (arith, c.decreases, less, part), type_in table tys i c.column-item.result.ty typed one)
 
 pub first_of_case-returns-in-None : goal.first_of_case-returns-in-None
 first_of_case-returns-in-None t c =

@@ -10,17 +10,17 @@ use Rattle.own_shapes.specs.Types as shape
 use Rattle.own_match.specs.First.{case_with, first_forms}
 use Rattle.own_match.specs.declared.column.Column.{Column as Held}
 use Rattle.own_match.specs.declared.head.Head.TheVariants as head
-use Rattle.own_match.specs.Inhabited.{all_have_values}
-use Rattle.own_match.specs.Search.{all_inhabited, narrowed, is_mentioned, rising, led, gathered, count, gap_in_numbers, gap_in_cases, payload_columns}
+use Rattle.own_table.specs.HasValue.{all_have_values}
+use Rattle.own_match.specs.Search.{narrowed, is_mentioned, rising, led, gathered, count, gap_in_numbers, gap_in_cases, payload_columns}
 use Rattle.own_match.specs.View.{said_all, columns_held, column_held, forms_held, rest_of, gap_from, gap_in_case, AreTypes}
 use Rattle.own_match.specs.Weights.{weight, weights, columns_weight}
 use Rattle.own_match.proofs.Columns.{on_ok}
-use Rattle.own_match.proofs.Enums.{values_are, gap_enum, case_types_in, case_weight, got, case_at, drop_past}
+use Rattle.own_match.proofs.Enums.{gap_enum, case_types_in, case_weight, got, case_at, drop_past}
 use Rattle.own_match.proofs.Steps.{others_cover, no_payload_values}
-use Rattle.own_match.proofs.Silent.{silent_covers, others_none, before_missing}
+use Rattle.own_match.proofs.NothingSaid.{silent_covers, others_none, before_missing}
 use Rattle.own_match.proofs.Taking.{no_case_here, silent_case, number_here, case_gap, count_types, enough_forms, todo_weight, todo_typed}
 use Rattle.own_match.proofs.search.Search.+gap.Goals as goal
-use Rattle.own_match.proofs.search.Search.+gap.Goals.{gap_in_cases-then-all_have_values+in-Ok+else-not-is_mentioned+in_ok-forms+in_default-2, gap_in_cases-else-all_have_values}
+use Rattle.own_match.proofs.search.Search.+gap.Goals.{gap_in_cases-then-all_have_values+else-not-is_mentioned+in_ok-forms+in_default, gap_in_cases-else-all_have_values}
 
 pub gap_in_cases-loop-at-init : goal.gap_in_cases-loop-at-init
 gap_in_cases-loop-at-init t c =
@@ -34,7 +34,17 @@ pub gap_in_cases-under_case-requires : goal.gap_in_cases-under_case-requires
 gap_in_cases-under_case-requires t c =
     let items = c.cases-info-items.result.now in
     let at : slice_get items c.loop-at.at ≡ Some c.info-item.result = got items c.loop-at.at c.info-item.result c.loop-at-test.true c.info-item.is in
-    (omega (arith, c.decreases), (c.requires.known, (c.requires.typed, ((c.requires.is_enum, case_at c.args.self.now.table.now c.args.column.now.ty items c.loop-at.at c.in-Ok.case c.info-item.result c.cases-info-items.ensures c.in-Ok.ensures.1 at), c.requires.rest_typed))))
+    (omega (arith, c.decreases), (c.requires.typed, ((c.requires.is_enum, case_at c.args.self.now.table.now c.args.column.now.ty items c.loop-at.at c.loop-at.at c.info-item.result c.cases-info-items.ensures refl at), c.requires.rest_typed)))
+
+pub gap_in_cases-all_have_values-requires : goal.gap_in_cases-all_have_values-requires
+gap_in_cases-all_have_values-requires t c =
+    let table = c.args.self.now.table.now in
+    let items = c.cases-info-items.result.now in
+    let info = c.info-item.result in
+    let i = c.loop-at.at in
+    let at : slice_get items i ≡ Some info = got items i info c.loop-at-test.true c.info-item.is in
+    subst (AreTypes table) (sym c.as_slice.ensures)
+    (case_types_in table c.args.column.now.ty i info c.requires.typed (c.requires.is_enum, case_at table c.args.column.now.ty items i i info c.cases-info-items.ensures refl at))
 
 pub gap_in_cases-loop-at-preserved : goal.gap_in_cases-loop-at-preserved
 gap_in_cases-loop-at-preserved t c =
@@ -46,15 +56,12 @@ gap_in_cases-loop-at-preserved t c =
     let next = rest_of S c.args.rest.now in
     let info = c.info-item.result in
     let i = c.loop-at.at in
-    let known = c.args.self.now.inhabited.now in
     let at : slice_get items i ≡ Some info = got items i info c.loop-at-test.true c.info-item.is in
     let none : gap_in_case S i info c.args.column.now c.args.rest.now live ≡ None = elim c.if-all_have_values.branch [
-      | gap_in_cases-then-all_have_values+in-Ok+else-not-is_mentioned+in_ok-forms+in_default-2 w ↦
-          subst (λ k. gap_in_case S k info c.args.column.now c.args.rest.now live ≡ None) w.in-Ok.ensures.1 (sym w.in_ok-forms.ensures ∙ ap (forms_held {Z = Global}) w.in_default-2.is)
+      | gap_in_cases-then-all_have_values+else-not-is_mentioned+in_ok-forms+in_default w ↦ sym w.in_ok-forms.ensures ∙ ap (forms_held {Z = Global}) w.in_default.is
       | gap_in_cases-else-all_have_values w ↦
-          let typed : AreTypes table info.payloads = case_types_in table c.args.column.now.ty i info c.requires.typed (c.requires.is_enum, case_at table c.args.column.now.ty items i i info c.cases-info-items.ensures refl at) in
-          let empty : all_inhabited (shapes_of S info.payloads) ≡ false =
-          sym (values_are table known c.requires.known info.payloads typed) ∙ ap (all_have_values known) (sym c.as_slice.ensures) ∙ sym c.all_have_values.ensures ∙ w.if-all_have_values.false in
+          let empty : all_have_values (shapes_of S info.payloads) ≡ false =
+          ap (λ tys. all_have_values (shapes_of S tys)) (sym c.as_slice.ensures) ∙ sym c.all_have_values.ensures ∙ w.if-all_have_values.false in
           ap (gathered i (count (shapes_of S info.payloads))) (no_payload_values (shapes_of S info.payloads) i cells (columns_held S c.args.rest.now) (narrowed (head.Case i) live cells) empty)
     ] in
     sym (no_case_here S items i info cells next live at none) ∙ c.loop-at.invariant
@@ -126,7 +133,7 @@ under_case-first_gap-requires t c =
     let less : weights (shapes_of S payloads) < weight (S c.args.column.now.ty) = case_weight table c.args.column.now.ty c.args.case c.args.info.now c.requires.typed c.requires.case_is in
     let types : map (λ c. c.ty) todo ≡ payloads ++ map (λ c. c.ty) rest =
     ap (map (λ (c : Held). c.ty)) c.as_slice.ensures.value ∙ c.in_ok-todo.ensures.types ∙ ap (λ tys. tys ++ map (λ (c : Held). c.ty) rest) (c.in_ok-columns.ensures.types ∙ c.as_slice-payloads.ensures) in
-    (omega (arith, c.decreases, w, less), (c.requires.known, todo_typed table payloads rest todo types (case_types_in table c.args.column.now.ty c.args.case c.args.info.now c.requires.typed c.requires.case_is) c.requires.rest_typed))
+    (omega (arith, c.decreases, w, less), todo_typed table payloads rest todo types (case_types_in table c.args.column.now.ty c.args.case c.args.info.now c.requires.typed c.requires.case_is) c.requires.rest_typed)
 
 pub under_case-gather-requires : goal.under_case-gather-requires
 under_case-gather-requires t c =
@@ -146,7 +153,7 @@ under_case-gather-requires t c =
 
 pub first_gap-returns-in-Some : goal.first_gap-returns-in-Some
 first_gap-returns-in-Some t c =
-    silent_covers (shape_in_table c.args.self.now.table.now) c.args.todo.now c.args.live.now (sym c.one_is_silent.ensures ∙ c.if-one_is_silent.true)
+    silent_covers (columns_held (shape_in_table c.args.self.now.table.now) c.args.todo.now) c.args.live.now (sym c.one_is_silent.ensures ∙ c.if-one_is_silent.true)
 
 pub gap_in_cases-returns-then-not-is_mentioned : goal.gap_in_cases-returns-then-not-is_mentioned
 gap_in_cases-returns-then-not-is_mentioned t c =
@@ -158,15 +165,13 @@ gap_in_cases-returns-then-not-is_mentioned t c =
     let next = rest_of S c.args.rest.now in
     let info = c.info-item.result in
     let i = c.loop-at.at in
-    let known = c.args.self.now.inhabited.now in
     let at : slice_get items i ≡ Some info = got items i info c.loop-at-test.true c.info-item.is in
-    let typed : AreTypes table info.payloads = case_types_in table c.args.column.now.ty i info c.requires.typed (c.requires.is_enum, case_at table c.args.column.now.ty items i i info c.cases-info-items.ensures refl at) in
-    let full : all_inhabited (shapes_of S info.payloads) ≡ true =
-    sym (values_are table known c.requires.known info.payloads typed) ∙ ap (all_have_values known) (sym c.as_slice.ensures) ∙ sym c.all_have_values.ensures ∙ c.if-all_have_values.true in
-    let silent : is_mentioned (head.Case c.in-Ok.case) live cells ≡ false =
-    ap (λ xs. is_mentioned (head.Case c.in-Ok.case) live (said_all xs)) (sym c.as_slice-then-all_have_values.ensures.value) ∙ sym c.is_mentioned.ensures ∙ c.if-not-is_mentioned.true in
-    let missing = before_missing (case_with c.in-Ok.case (first_forms (shapes_of S info.payloads) c.in-Ok.case 0 cells)) (next (narrowed head.Other live cells)) (gap_from S c.args.column.now c.args.rest.now live)
-    (λ others e. silent_case S items i info cells next live at c.in-Ok.case others c.in-Ok.ensures.1 silent full e ∙ c.loop-at.invariant)
+    let full : all_have_values (shapes_of S info.payloads) ≡ true =
+    ap (λ tys. all_have_values (shapes_of S tys)) (sym c.as_slice.ensures) ∙ sym c.all_have_values.ensures ∙ c.if-all_have_values.true in
+    let silent : is_mentioned (head.Case i) live cells ≡ false =
+    ap (λ xs. is_mentioned (head.Case i) live (said_all xs)) (sym c.as_slice-then-all_have_values.ensures.value) ∙ sym c.is_mentioned.ensures ∙ c.if-not-is_mentioned.true in
+    let missing = before_missing (case_with i (first_forms (shapes_of S info.payloads) i 0 cells)) (next (narrowed head.Other live cells)) (gap_from S c.args.column.now c.args.rest.now live)
+    (λ others e. silent_case S items i info cells next live at i others refl silent full e ∙ c.loop-at.invariant)
     (λ e. others_cover (column_held S c.args.column.now) (columns_held S c.args.rest.now) live e) in
     on_ok _ (λ gap. forms_held gap ≡ gap_from S c.args.column.now c.args.rest.now live) (λ gap h. h ∙ missing) c.gap_in_others.result c.gap_in_others.ensures
 
