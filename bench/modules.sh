@@ -2,7 +2,8 @@
 # Times the reader and the writer of modules, through the proved bench_modules, on a module of some megabytes
 # that is made here: what TURNS more readings, and TURNS more writings, take of the processor's time. Beside
 # them stands wabt's wasm-validate on the same file, where it is installed; it checks the types of the code
-# too, and is timed with the start of its process.
+# too, and is timed with the start of its process. Last, where GNU time is installed, comes the most memory that
+# the reading of 16 MiB of instructions of one byte takes.
 # Usage: bench/modules.sh [FUNCTIONS]   with some 2,900 bytes a function; 1,500 without it, and at most 9,999.
 set -eu
 top=$(cd "$(dirname "$0")/.." && pwd)
@@ -40,6 +41,12 @@ speed() {
 echo "$size bytes: $("$program" read "$module" 1)"
 speed read "$(best "$program" read "$module" 1)" "$(best "$program" read "$module" $((turns + 1)))"
 speed write "$(best "$program" write "$module" 1)" "$(best "$program" write "$module" $((turns + 1)))"
+if [ -x /usr/bin/time ]; then
+    nops="$work/nops.wasm"
+    python3 "$top/bench/make_nops.py" 16 >"$nops"
+    kibibytes=$(/usr/bin/time -f %M "$program" read "$nops" 1 2>&1 >/dev/null)
+    awk -v kibibytes="$kibibytes" 'BEGIN { printf "read of 16 MiB of nop: %d MiB of memory at most\n", kibibytes / 1024 }'
+fi
 if ! command -v wasm-validate >/dev/null; then
     echo "wasm-validate (package wabt) is not installed, so there is nothing to compare with"
     exit 0
