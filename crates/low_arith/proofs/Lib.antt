@@ -2,5 +2,3 @@ pub mod Laws
 pub mod Numbers
 pub mod Operations
 pub mod Examples
-pub mod Runs
-pub mod Results

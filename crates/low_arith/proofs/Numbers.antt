@@ -7,8 +7,9 @@ use Rattle.std.proofs.Math.IntN.{*ℤ_comm}
 use Rattle.std.proofs.Math.Nat.{div-le_self, mul-div_cancel_left, zero-div}
 use Rattle.std.specs.Int.{w64, cast_signed, cast_unsigned, int_wrap, int_wrapping_sub}
 use Rattle.wasm_form.specs.Integers.{ine, ieqz, ieq, ilt_s, igt_s, iadd, isub, imul, idiv_s, irem_s}
-use Rattle.low_arith.proofs.Laws.{unlike}
-use Rattle.low_arith.specs.Exact.{is_int}
+use Rattle.own_ways.specs.Exact.{is_int}
+use Rattle.own_ways.proofs.Results.{int_above, int_below}
+use Rattle.wasm_laws.proofs.Opcodes.{unlike}
 
 abbrev pub signed : ℕ → ℤ
 signed n = cast_signed w64 n
@@ -44,13 +45,6 @@ negation_bits b lb e = grind (arith, ints)
 
 pub signed_fits : (a : ℕ) → a < 2 ^ 64 → FitsSigned w64 (signed a)
 signed_fits a la = record { sfits = grind (arith, ints) }
-
-int_above : (n : ℕ) → n < 2 ^ 63 → is_int (pos n) ≡ true
-int_above n lt = grind (arith, ints)
-
-pub int_below : (n : ℕ) → n ≤ 2 ^ 63 → is_int (neg_ℤ (pos n)) ≡ true
-int_below zero le = refl
-int_below (suc n) le = grind (arith, ints)
 
 -- all but that of the least `Int` by -1
 quotient : (x y : ℤ) → FitsSigned w64 x → (x ≡ negsuc 9223372036854775807 → y ≡ negsuc 0 → ⊥) → is_int (int_div x y) ≡ true

@@ -1,5 +1,5 @@
 -- The instructions do each operation exactly.
-use Rattle.std.proofs.Common.{◌≡◌, ℕ, suc, ◌+◌, ◌^◌, ◌<◌, ◌≤◌, None, List, [], ◌∷◌, ◌++◌, length, refl, arith, Bool, true, false, Ok, ◌&&◌}
+use Rattle.std.proofs.Common.{◌≡◌, ℕ, suc, ◌+◌, ◌^◌, ◌<◌, ◌≤◌, None, List, [], ◌∷◌, ◌++◌, length, refl, sym, subst, arith, Bool, true, false, Ok, ◌&&◌}
 use Rattle.std.specs.Prelude.{ℤ, int_div}
 use Rattle.std.specs.Int.{w64, cast_unsigned}
 use Rattle.own_tree.specs.declared.arithmetic.Arith.{Arith}
@@ -12,10 +12,15 @@ use Rattle.wasm_form.specs.declared.types.Value.{Value}
 use Rattle.wasm_form.specs.declared.types.Value.TheVariants.{I32, I64}
 use Rattle.wasm_form.specs.Steps.{Config, Next, Goes, Traps, below_all}
 use Rattle.wasm_form.specs.Integers.{ieqz, ieq, ine, ilt_s, igt_s, iadd, isub, imul, idiv_s}
-use Rattle.low_arith.specs.Exact.{exact}
+use Rattle.own_ways.specs.Exact.{exact}
+use Rattle.wasm_laws.specs.Places.{on, word}
+use Rattle.wasm_laws.specs.Stretches.{steps, Leads}
+use Rattle.wasm_laws.proofs.Stretches.{arrives, leads}
+use Rattle.wasm_laws.proofs.Opcodes.{unlike}
+use Rattle.wasm_laws.proofs.Opcodes as step
 use Rattle.low_arith.specs.Code.{checked_code, sum_code, difference_code, product_code, product_tests, division_tests, negation_code, trap_if}
-use Rattle.low_arith.specs.Checked.{on, steps, locals_with, met, HasTrap, IsChecked}
-use Rattle.low_arith.proofs.Laws.{Leads, arrives, goes, passes, falls, inside, word, unlike}
+use Rattle.low_arith.specs.Checked.{locals_with, met, HasTrap, IsChecked}
+use Rattle.low_arith.proofs.Laws.{passes, falls, inside}
 use Rattle.low_arith.proofs.Laws as law
 use Rattle.low_arith.proofs.Numbers.{signed, sum_is_int, sum_is_none, sum_bits, difference_is_int, difference_is_none, difference_bits, negation_is_int, negation_is_none, negation_bits, quotient_is_int, quotient_is_none, divisor_is_zero, product_by_minus_one, product_bits, product_is_int, product_is_none, product_of_zero, product_of_least}
 use Rattle.low_arith.proofs.Numbers as number
@@ -65,22 +70,22 @@ module _ (m : Module) (trap : HasTrap m) (c : Config) (rest : List Instr) (value
     -- ---- sums
 
     sum_end : Leads m 3 (place (i.LocalGet 1 ∷ i.LocalGet 2 ∷ i.I64Add ∷ rest) values) (Goes (place rest (I64 (iadd w64 a b) ∷ values)))
-    sum_end = goes (law.gets_first m c one) (goes (law.gets_second m c two) (goes (law.adds m c a b) arrives))
+    sum_end = leads (law.gets_first m c one) (leads (law.gets_second m c two) (leads step.adds64 arrives))
 
     sum_leads : (next : Next)
         → Leads m 5 (place (trap_if 1 at ∷ i.LocalGet 1 ∷ i.LocalGet 2 ∷ i.I64Add ∷ rest) (I32 (word (unlike (ilt_s w64 (iadd w64 a b) a) (ilt_s w64 b 0))) ∷ values)) next
         → Leads m 15 (start (sum_code at ++ rest)) next
     sum_leads next t =
-        goes (law.sets_second m c q b)
-        (goes (law.tees_first m c p a)
-        (goes (law.gets_second m c two)
-        (goes (law.adds m c a b)
-        (goes (law.gets_first m c two)
-        (goes (law.is_below m c (iadd w64 a b) a _ refl)
-        (goes (law.gets_second m c two)
-        (goes (law.puts m c 0 three)
-        (goes (law.is_below m c b 0 _ refl)
-        (goes (law.differ m c _ _) t)))))))))
+        leads (law.sets_second m c q b)
+        (leads (law.tees_first m c p a)
+        (leads (law.gets_second m c two)
+        (leads step.adds64
+        (leads (law.gets_first m c two)
+        (leads (step.told _ refl step.is_less)
+        (leads (law.gets_second m c two)
+        (leads (step.puts64 three)
+        (leads (step.told _ refl step.is_less)
+        (leads (step.differ _ _) t)))))))))
 
     pub sum_checked : Leads m 15 (start (sum_code at ++ rest)) (met (exact Add (signed a) (signed b)) at (done a b))
     sum_checked = go (unlike (ilt_s w64 (iadd w64 a b) a) (ilt_s w64 b 0)) refl
@@ -94,22 +99,22 @@ module _ (m : Module) (trap : HasTrap m) (c : Config) (rest : List Instr) (value
     -- ---- differences
 
     difference_end : Leads m 3 (place (i.LocalGet 1 ∷ i.LocalGet 2 ∷ i.I64Sub ∷ rest) values) (Goes (place rest (I64 (isub w64 a b) ∷ values)))
-    difference_end = goes (law.gets_first m c one) (goes (law.gets_second m c two) (goes (law.subtracts m c a b) arrives))
+    difference_end = leads (law.gets_first m c one) (leads (law.gets_second m c two) (leads step.subtracts64 arrives))
 
     difference_leads : (next : Next)
         → Leads m 5 (place (trap_if 1 at ∷ i.LocalGet 1 ∷ i.LocalGet 2 ∷ i.I64Sub ∷ rest) (I32 (word (unlike (igt_s w64 (isub w64 a b) a) (ilt_s w64 b 0))) ∷ values)) next
         → Leads m 15 (start (difference_code at ++ rest)) next
     difference_leads next t =
-        goes (law.sets_second m c q b)
-        (goes (law.tees_first m c p a)
-        (goes (law.gets_second m c two)
-        (goes (law.subtracts m c a b)
-        (goes (law.gets_first m c two)
-        (goes (law.is_above m c (isub w64 a b) a _ refl)
-        (goes (law.gets_second m c two)
-        (goes (law.puts m c 0 three)
-        (goes (law.is_below m c b 0 _ refl)
-        (goes (law.differ m c _ _) t)))))))))
+        leads (law.sets_second m c q b)
+        (leads (law.tees_first m c p a)
+        (leads (law.gets_second m c two)
+        (leads step.subtracts64
+        (leads (law.gets_first m c two)
+        (leads (step.told _ refl step.is_greater)
+        (leads (law.gets_second m c two)
+        (leads (step.puts64 three)
+        (leads (step.told _ refl step.is_less)
+        (leads (step.differ _ _) t)))))))))
 
     pub difference_checked : Leads m 15 (start (difference_code at ++ rest)) (met (exact Sub (signed a) (signed b)) at (done a b))
     difference_checked = go (unlike (igt_s w64 (isub w64 a b) a) (ilt_s w64 b 0)) refl
@@ -123,7 +128,7 @@ module _ (m : Module) (trap : HasTrap m) (c : Config) (rest : List Instr) (value
     -- ---- products
 
     product_end : Leads m 3 (place (i.LocalGet 1 ∷ i.LocalGet 2 ∷ i.I64Mul ∷ rest) values) (Goes (place rest (I64 (imul w64 a b) ∷ values)))
-    product_end = goes (law.gets_first m c one) (goes (law.gets_second m c two) (goes (law.multiplies m c a b) arrives))
+    product_end = leads (law.gets_first m c one) (leads (law.gets_second m c two) (leads step.multiplies64 arrives))
 
     abbrev after_tests : List Instr
     after_tests = i.LocalGet 1 ∷ i.LocalGet 2 ∷ i.I64Mul ∷ rest
@@ -135,7 +140,7 @@ module _ (m : Module) (trap : HasTrap m) (c : Config) (rest : List Instr) (value
     product_begins : (n : ℕ) (next : Next) (zero : Bool) → ieqz a ≡ zero
         → Leads m n (place (i.If None [] (product_tests at) ∷ after_tests) (I32 (word zero) ∷ values)) next
         → Leads m (suc (suc (suc n))) (start (product_code at ++ rest)) next
-    product_begins n next zero z t = goes (law.sets_second m c q b) (goes (law.tees_first m c p a) (goes (law.is_zero m c a zero z) t))
+    product_begins n next zero z t = leads (law.sets_second m c q b) (leads (law.tees_first m c p a) (leads (step.told zero z step.tests) t))
 
     abbrev second_test : List Instr
     second_test = i.LocalGet 1 ∷ i.LocalGet 2 ∷ i.I64Mul ∷ i.LocalGet 1 ∷ i.I64DivS ∷ i.LocalGet 2 ∷ i.I64Ne ∷ trap_if 1 at ∷ []
@@ -144,33 +149,33 @@ module _ (m : Module) (trap : HasTrap m) (c : Config) (rest : List Instr) (value
         → Leads m 15 (tested (trap_if 1 at ∷ second_test) (I32 (word least) ∷ [])) next → Leads m 22 (tested (product_tests at) []) next
     product_tests_first next least e t =
         let d = inside values after_tests c in
-        goes (law.gets_first m d zero_in)
-        (goes (law.puts m d 18446744073709551615 one_in)
-        (goes (law.is_same m d a 18446744073709551615 _ refl)
-        (goes (law.gets_second m d one_in)
-        (goes (law.puts m d 9223372036854775808 two_in)
-        (goes (law.is_same m d b 9223372036854775808 _ refl)
-        (goes (law.both m d _ _) (rw e t)))))))
+        leads (law.gets_first m d zero_in)
+        (leads (step.puts64 one_in)
+        (leads (step.told _ refl step.equals)
+        (leads (law.gets_second m d one_in)
+        (leads (step.puts64 two_in)
+        (leads (step.told _ refl step.equals)
+        (leads (step.both _ _) (subst (λ (x : Bool). Leads m 15 (tested (trap_if 1 at ∷ second_test) (I32 (word x) ∷ [])) next) (sym e) t)))))))
 
     product_tests_second : (next : Next) (n : ℕ) (other : Bool) → idiv_s w64 (imul w64 a b) a ≡ Ok n → ine n b ≡ other
         → Leads m 6 (tested (trap_if 1 at ∷ []) (I32 (word other) ∷ [])) next → Leads m 13 (tested second_test []) next
     product_tests_second next n other e f t =
         let d = inside values after_tests c in
-        goes (law.gets_first m d zero_in)
-        (goes (law.gets_second m d one_in)
-        (goes (law.multiplies m d a b)
-        (goes (law.gets_first m d one_in)
-        (goes (law.divides m d (imul w64 a b) a n e)
-        (goes (law.gets_second m d one_in)
-        (goes (law.is_other m d n b other f) t))))))
+        leads (law.gets_first m d zero_in)
+        (leads (law.gets_second m d one_in)
+        (leads step.multiplies64
+        (leads (law.gets_first m d one_in)
+        (leads (step.divides64 e)
+        (leads (law.gets_second m d one_in)
+        (leads (step.told other f step.differs) t))))))
 
     pub product_by_zero : ieqz a ≡ true → Leads m 8 (start (product_code at ++ rest)) (met (exact Mul (signed a) (signed b)) at (done a b))
     product_by_zero z =
         let int = product_of_zero a b z in
-        rw (int, product_bits a b la lb int) (product_begins 5 _ true z (goes (law.enters m c [] _ 1) (goes (law.leaves m c) product_end)))
+        rw (int, product_bits a b la lb int) (product_begins 5 _ true z (leads (step.chooses [] _) (leads step.leaves product_end)))
 
     product_tested : ieqz a ≡ false → (next : Next) → Leads m 22 (tested (product_tests at) []) next → Leads m 26 (start (product_code at ++ rest)) next
-    product_tested z next t = product_begins 23 next false z (goes (law.enters m c [] _ 0) t)
+    product_tested z next t = product_begins 23 next false z (leads (step.chooses [] _) t)
 
     pub product_checked : ieqz a ≡ false → Leads m 26 (start (product_code at ++ rest)) (met (exact Mul (signed a) (signed b)) at (done a b))
     product_checked z = first (ieq a 18446744073709551615 && ieq b 9223372036854775808) refl
@@ -188,7 +193,7 @@ module _ (m : Module) (trap : HasTrap m) (c : Config) (rest : List Instr) (value
         second e false f =
             let g = product_by_minus_one a b lb e in
             let int = product_is_int a b la lb z g f in
-            rw (int, product_bits a b la lb int) (product_tested z _ (product_tests_first _ false e (passes m d 1 at (product_tests_second _ n false (number.divides (imul w64 a b) a z g) f (passes m d 1 at (goes (law.leaves m c) product_end))))))
+            rw (int, product_bits a b la lb int) (product_tested z _ (product_tests_first _ false e (passes m d 1 at (product_tests_second _ n false (number.divides (imul w64 a b) a z g) f (passes m d 1 at (leads step.leaves product_end))))))
 
         first : (least : Bool) → (ieq a 18446744073709551615 && ieq b 9223372036854775808) ≡ least → Leads m 26 (start (product_code at ++ rest)) (met (exact Mul (signed a) (signed b)) at (done a b))
         first true e = rw (product_of_least a b e) (product_tested z _ (product_tests_first _ true e (falls m d trap 11 1 at room_to_trap_in)))
@@ -202,19 +207,19 @@ module _ (m : Module) (trap : HasTrap m) (c : Config) (rest : List Instr) (value
     division_begins : (last : Instr) (next : Next) (zero : Bool) → ieqz b ≡ zero
         → Leads m 14 (on c (trap_if 2 at ∷ past_zero last) (I32 (word zero) ∷ I64 a ∷ values) (locals_with base p b others)) next
         → Leads m 16 (start ((division_tests at ++ last ∷ []) ++ rest)) next
-    division_begins last next zero z t = goes (law.tees_second m c q b) (goes (law.is_zero m c b zero z) t)
+    division_begins last next zero z t = leads (law.tees_second m c q b) (leads (step.told zero z step.tests) t)
 
     division_goes_on : (last : Instr) (next : Next) (least : Bool) → (ieq a 9223372036854775808 && ieq b 18446744073709551615) ≡ least
         → Leads m 5 (place (trap_if 1 at ∷ i.LocalGet 1 ∷ i.LocalGet 2 ∷ last ∷ rest) (I32 (word least) ∷ values)) next
         → Leads m 12 (on c (past_zero last) (I64 a ∷ values) (locals_with base p b others)) next
     division_goes_on last next least e t =
-        goes (law.tees_first m c p a)
-        (goes (law.puts m c 9223372036854775808 two)
-        (goes (law.is_same m c a 9223372036854775808 _ refl)
-        (goes (law.gets_second m c two)
-        (goes (law.puts m c 18446744073709551615 three)
-        (goes (law.is_same m c b 18446744073709551615 _ refl)
-        (goes (law.both m c _ _) (rw e t)))))))
+        leads (law.tees_first m c p a)
+        (leads (step.puts64 two)
+        (leads (step.told _ refl step.equals)
+        (leads (law.gets_second m c two)
+        (leads (step.puts64 three)
+        (leads (step.told _ refl step.equals)
+        (leads (step.both _ _) (subst (λ (x : Bool). Leads m 5 (place (trap_if 1 at ∷ i.LocalGet 1 ∷ i.LocalGet 2 ∷ last ∷ rest) (I32 (word x) ∷ values)) next) (sym e) t)))))))
 
     division_by_zero : (last : Instr) → ieqz b ≡ true → Leads m 16 (start ((division_tests at ++ last ∷ []) ++ rest)) (Traps 2 at)
     division_by_zero last z = division_begins last _ true z (falls m c trap 10 2 at room_to_trap_on_one)
@@ -224,7 +229,7 @@ module _ (m : Module) (trap : HasTrap m) (c : Config) (rest : List Instr) (value
 
     division_ends : (last : Instr) (next : Next) → ieqz b ≡ false → (ieq a 9223372036854775808 && ieq b 18446744073709551615) ≡ false
         → Leads m 1 (place (last ∷ rest) (I64 b ∷ I64 a ∷ values)) next → Leads m 16 (start ((division_tests at ++ last ∷ []) ++ rest)) next
-    division_ends last next z e t = division_begins last _ false z (passes m c 2 at (division_goes_on last _ false e (passes m c 1 at (goes (law.gets_first m c one) (goes (law.gets_second m c two) t)))))
+    division_ends last next z e t = division_begins last _ false z (passes m c 2 at (division_goes_on last _ false e (passes m c 1 at (leads (law.gets_first m c one) (leads (law.gets_second m c two) t)))))
 
     pub quotient_checked : Leads m 16 (start ((division_tests at ++ i.I64DivS ∷ []) ++ rest)) (met (exact Div (signed a) (signed b)) at (done a b))
     quotient_checked = go (ieqz b) refl (ieq a 9223372036854775808 && ieq b 18446744073709551615) refl
@@ -233,7 +238,7 @@ module _ (m : Module) (trap : HasTrap m) (c : Config) (rest : List Instr) (value
             → Leads m 16 (start ((division_tests at ++ i.I64DivS ∷ []) ++ rest)) (met (exact Div (signed a) (signed b)) at (done a b))
         go true z least e = rw (divisor_is_zero b lb true z) (division_by_zero i.I64DivS z)
         go false z true e = rw (divisor_is_zero b lb false z, quotient_is_none a b e) (division_overflows i.I64DivS z e)
-        go false z false e = rw (divisor_is_zero b lb false z, quotient_is_int a b la lb e) (division_ends i.I64DivS _ z e (goes (law.divides m c a b _ (number.divides a b z e)) arrives))
+        go false z false e = rw (divisor_is_zero b lb false z, quotient_is_int a b la lb e) (division_ends i.I64DivS _ z e (leads (step.divides64 (number.divides a b z e)) arrives))
 
     pub remainder_checked : Leads m 16 (start ((division_tests at ++ i.I64RemS ∷ []) ++ rest)) (met (exact Rem (signed a) (signed b)) at (done a b))
     remainder_checked = go (ieqz b) refl (ieq a 9223372036854775808 && ieq b 18446744073709551615) refl
@@ -242,7 +247,7 @@ module _ (m : Module) (trap : HasTrap m) (c : Config) (rest : List Instr) (value
             → Leads m 16 (start ((division_tests at ++ i.I64RemS ∷ []) ++ rest)) (met (exact Rem (signed a) (signed b)) at (done a b))
         go true z least e = rw (divisor_is_zero b lb true z) (division_by_zero i.I64RemS z)
         go false z true e = rw (divisor_is_zero b lb false z, quotient_is_none a b e) (division_overflows i.I64RemS z e)
-        go false z false e = rw (divisor_is_zero b lb false z, quotient_is_int a b la lb e) (division_ends i.I64RemS _ z e (goes (law.leaves_rest m c a b _ (number.leaves a b z)) arrives))
+        go false z false e = rw (divisor_is_zero b lb false z, quotient_is_int a b la lb e) (division_ends i.I64RemS _ z e (leads (step.leaves_rest64 (number.leaves a b z)) arrives))
 
     -- ---- negations
 
@@ -252,13 +257,13 @@ module _ (m : Module) (trap : HasTrap m) (c : Config) (rest : List Instr) (value
         begins : (least : Bool) (next : Next) → ieq b 9223372036854775808 ≡ least
             → Leads m 5 (on c (trap_if 1 at ∷ i.I64Const 0 ∷ i.LocalGet 1 ∷ i.I64Sub ∷ rest) (I32 (word least) ∷ values) (locals_with base b q others)) next
             → Leads m 8 (on c (negation_code at ++ rest) (I64 b ∷ values) (locals_with base p q others)) next
-        begins least next e t = goes (law.tees_first m c p b) (goes (law.puts m c 9223372036854775808 two) (goes (law.is_same m c b 9223372036854775808 least e) t))
+        begins least next e t = leads (law.tees_first m c p b) (leads (step.puts64 two) (leads (step.told least e step.equals) t))
 
         go : (least : Bool) → ieq b 9223372036854775808 ≡ least → Leads m 8 (on c (negation_code at ++ rest) (I64 b ∷ values) (locals_with base p q others)) (met (exact Neg (signed a) (signed b)) at (done b q))
         go true e = rw (negation_is_none b lb e) (begins true _ e (falls m c trap 1 1 at room_to_trap))
         go false e =
             let int = negation_is_int b lb e in
-            rw (int, negation_bits b lb int) (begins false _ e (passes m c 1 at (goes (law.puts m c 0 one) (goes (law.gets_first m c two) (goes (law.subtracts m c 0 b) arrives)))))
+            rw (int, negation_bits b lb int) (begins false _ e (passes m c 1 at (leads (step.puts64 one) (leads (law.gets_first m c two) (leads step.subtracts64 arrives)))))
 
 -- ---- all operations
 

@@ -1,5 +1,5 @@
 -- What it is for instructions to do an operation, by the steps of the machine.
-use Rattle.std.specs.Prelude.{◌≡◌, ℕ, zero, suc, ◌+◌, ◌^◌, ◌<◌, ◌≤◌, Some, List, ◌∷◌, ◌++◌, length, ℤ, slice_get}
+use Rattle.std.specs.Prelude.{◌≡◌, ℕ, ◌+◌, ◌^◌, ◌<◌, ◌≤◌, Some, List, ◌∷◌, ◌++◌, length, ℤ, slice_get}
 use Rattle.std.specs.Int.{w64, cast_signed, cast_unsigned}
 use Rattle.own_tree.specs.declared.arithmetic.Arith.{Arith}
 use Rattle.own_tree.specs.declared.arithmetic.Arith.TheVariants.{Neg}
@@ -10,26 +10,13 @@ use Rattle.wasm_form.specs.declared.module.Import.{Import}
 use Rattle.wasm_form.specs.declared.module.HostCall.TheVariants as host
 use Rattle.wasm_form.specs.declared.types.Value.{Value}
 use Rattle.wasm_form.specs.declared.types.Value.TheVariants.{I64}
-use Rattle.wasm_form.specs.Steps.{Config, Next, Goes, Traps, step, below_all}
+use Rattle.wasm_form.specs.Steps.{Config, Next, Goes, Traps, below_all}
 use Rattle.low_arith.specs.declared.places.TheConstants.{TRAP, MOST_STEPS, MOST_PUSHED}
-use Rattle.low_arith.specs.Exact.{Exact, Gives, Fails, exact}
-
--- ---- several steps
-
-abbrev pub then_next : (Config → Next) → Next → Next
-then_next more (Goes c) = more c
-then_next more next = next
-
--- where so many steps lead that write nothing, or what the first of them comes to that does not go on so
-abbrev pub steps : Module → ℕ → Config → Next
-steps m zero c = Goes c
-steps m (suc n) c = then_next (steps m n) (step m c)
+use Rattle.own_ways.specs.Exact.{Exact, Gives, Fails, exact}
+use Rattle.wasm_laws.specs.Places.{on}
+use Rattle.wasm_laws.specs.Stretches.{steps}
 
 -- ---- where the instructions stand
-
--- a place in a run, which has this code, these values and these locals, and all else as c
-abbrev pub on : Config → List Instr → List Value → List Value → Config
-on c code values locals = record c { code = code; values = values; locals = locals }
 
 abbrev pub HasTrap : Module → Type 0
 HasTrap m = (import : Import) × (slice_get m.imports TRAP ≡ Some import) × (import.call ≡ host.Trap)

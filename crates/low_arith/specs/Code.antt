@@ -4,7 +4,8 @@ use Rattle.wasm_form.specs.declared.instr.Instr.{Instr}
 use Rattle.wasm_form.specs.declared.instr.Instr.TheVariants as i
 use Rattle.own_tree.specs.declared.arithmetic.Arith.{Arith}
 use Rattle.own_tree.specs.declared.arithmetic.Arith.TheVariants.{Add, Sub, Mul, Div, Rem, Neg}
-use Rattle.low_arith.specs.declared.places.TheConstants.{FIRST, SECOND, TRAP, OVERFLOW, ZERO_DIVISOR}
+use Rattle.low_arith.specs.declared.places.TheConstants.{FIRST, SECOND, TRAP}
+use Rattle.own_ways.specs.declared.traps.TheConstants.{OVERFLOW, ZERO_DIVISOR}
 
 -- the bits of the least `Int`, and of -1
 abbrev pub LEAST : ℕ

@@ -2,8 +2,9 @@ ghost use Rattle.std.specs.Prelude.{◌≡◌, ◌++◌, ◌∷◌, [], IfOk};
 ghost use Rattle.low_arith.specs.Checked.{IsChecked};
 ghost use Rattle.low_arith.specs.Code.{trap_if, sum_code, difference_code, product_tests, product_code, division_tests, negation_code, checked_code};
 
-use crate::places::{FIRST, OVERFLOW, SECOND, TRAP, ZERO_DIVISOR};
+use crate::places::{FIRST, SECOND, TRAP};
 use own_tree::{Arith, Row};
+use own_ways::traps::{OVERFLOW, ZERO_DIVISOR};
 use sqlite_items::{Boxed, Items};
 use std::alloc::{AllocError, Global};
 use wasm_form::Instr;

@@ -11,12 +11,6 @@ pub const SECOND: u32 = 2;
 /// `HostCall`.
 pub const TRAP: u32 = 5;
 
-/// The code of the trap where the exact result is no `Int`.
-pub const OVERFLOW: u32 = 1;
-
-/// The code of the trap where a divisor is 0.
-pub const ZERO_DIVISOR: u32 = 2;
-
 /// No operation takes more steps.
 pub const MOST_STEPS: u32 = 26;
 
