@@ -7,7 +7,6 @@ pub mod FormSound
 pub mod Limits
 pub mod LowerSteps
 pub mod Opcodes
-pub mod Paths
 pub mod Statements
 pub mod SecondComplete
 pub mod SecondLoops

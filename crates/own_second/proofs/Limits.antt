@@ -12,31 +12,13 @@ use Rattle.wasm_form.specs.declared.types.FunctionType.{FunctionType}
 use Rattle.wasm_form.specs.declared.types.ValueType.TheVariants as type
 use Rattle.wasm_form.specs.Within.{IsWithin, FunctionIsWithin, nest, nest_one, nest_layer}
 use Rattle.wasm_form.specs.Steps.{defined_type}
+use Rattle.wasm_form.proofs.Nests.{nest_of, nest_is}
 use Rattle.wasm_form.proofs.Outs.{out_unreachable, out_i64_const, out_i32_const, out_local_get, out_local_set, out_local_tee, out_i64_add, out_i64_lt_s, out_if, out_call}
 use Rattle.own_tree.specs.Source.{Exp, number, path, consumed, binary, call, value, Args, no_args, arg, Stm, let_in, ignore, evaluate, Stms, no_stms, stm, Blk, block, Decl, struct_of, function, File}
 use Rattle.own_meaning.specs.Scoped.{IsScoped, AreDeclared, IsBody}
 use Rattle.own_second.specs.declared.lower.Local.{Local}
 use Rattle.own_second.specs.Lower.{add_code, sum_code, argument_code, value_code, line_code, print_code, bytes_code, word_of, farewell_code, end_code, ends_code, ignore_code, statement_code, statements_code, locals_after, all_locals, module_with, lowered_body, lowered_in, lowered, IsShortBody, AreShortBodies}
 use Rattle.own_second.proofs.Whole.{locals_counted, lets_few}
-
--- ---- how deep labels nest in an instruction, from the lists in it
-
-abbrev nest_of : Instr-F Instr → ℕ
-nest_of (F.Block r body) = nest body + 1
-nest_of (F.Loop r body) = nest body + 1
-nest_of (F.If r first second) = max (nest first) (nest second) + 1
-nest_of _ = 0
-
-nest_cases : (l : Instr-F Instr) → nest_layer (map-Instr Instr ℕ (fold-Instr ℕ nest_layer) l) ≡ nest_of l
-unfolding nest_one
-nest_cases (F.Block r body) = refl
-nest_cases (F.Loop r body) = refl
-nest_cases (F.If r first second) = refl
-nest_cases _ = refl
-
-nest_is : (i : Instr) → nest_one i ≡ nest_of (out-Instr i)
-unfolding nest_one
-nest_is i = fold_out-Instr ℕ nest_layer i ∙ nest_cases (out-Instr i)
 
 -- ---- flat code: no label stands in another
 

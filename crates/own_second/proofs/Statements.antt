@@ -24,7 +24,8 @@ use Rattle.own_meaning.specs.Run as source
 use Rattle.own_meaning.specs.Run.{turning, farewell_items, farewell, block_farewell, member_farewell}
 use Rattle.own_second.specs.declared.lower.Local.{Local}
 use Rattle.own_second.specs.Lower.{sum_code, value_code, line_code, bytes_code, word_of, farewell_code, end_code, ends_code, statements_code, locals_after, deinit_of, emptied, local_of, root_of, callee_type, module_with, farewell_word, body_word, block_word, member_word}
-use Rattle.own_second.proofs.Paths.{Comes, Falls, Stops, goes, writes, ends, comes_on, falls_on, stops_on}
+use Rattle.wasm_laws.specs.Stretches.{Comes, Falls, Stops}
+use Rattle.wasm_laws.proofs.Stretches.{goes, here, writes_once, ends, comes_on, falls_on, stops_on}
 use Rattle.own_second.proofs.Opcodes.{on, main, gets, sets, puts32, prints, writes_byte, finishes}
 use Rattle.own_second.proofs.Sums.{deinit_of_val, local_for, locals_for, IsHeld, Holds, held, locals, IsSum, IsFound, found, SumRuns, sum_runs}
 
@@ -222,8 +223,8 @@ module _ (size : ℕ) (body : List Instr) (input : List ℤ) where
 
   -- a stretch before what matches
   matches_on : (k bound : ℕ) (o p : List ℕ) (c d : Config) (outcome : Outcome) → Comes (module_with size body) k o c d → Matches bound d p outcome → Matches (k + bound) c (o ++ p) outcome
-  matches_on k bound o p c d Ended x m = (k + m.0, omega (arith, m.1), stops_on _ k m.0 o p c d x m.2)
-  matches_on k bound o p c d (Trapped code at) x m = (k + m.0, omega (arith, m.1), falls_on _ k m.0 o p code at c d x m.2)
+  matches_on k bound o p c d Ended x m = (k + m.0, omega (arith, m.1), stops_on {k = k} {l = m.0} {o = o} {p = p} x m.2)
+  matches_on k bound o p c d (Trapped code at) x m = (k + m.0, omega (arith, m.1), falls_on {k = k} {l = m.0} {o = o} {p = p} x m.2)
   matches_on k bound o p c d Cut x m = tt
   matches_on k bound o p c d Wrong x m = tt
 
@@ -240,14 +241,14 @@ module _ (size : ℕ) (body : List Instr) (input : List ℤ) where
       → Comes (module_with size body) 3 (line (pos n)) (on main input (line_code ++ code) (I64 n ∷ []) ls) (on main input code [] ls)
   line_comes n code ls small =
       let exact : cast_signed w64 n ≡ pos n = omega (arith, ints) in
-      let number = rw exact at (writes _ _ _ _ (prints size body input n (i.I32Const 10 ∷ i.Call 1 ∷ code) [] ls)) in
-      comes_on _ 1 2 (signed_decimal (pos n)) (10 ∷ []) _ _ _ number
-      (comes_on _ 1 1 [] (10 ∷ []) _ _ _ (goes _ _ _ (puts32 (module_with size body) input main 10 (i.Call 1 ∷ code) [] ls (omega arith))) (writes _ _ _ _ (writes_byte size body input 10 code [] ls (omega arith))))
+      let number = rw exact at (writes_once (prints size body input n (i.I32Const 10 ∷ i.Call 1 ∷ code) [] ls)) in
+      comes_on {k = 1} {l = 2} {o = (signed_decimal (pos n))} {p = (10 ∷ [])} number
+      (comes_on {k = 1} {l = 1} {o = []} {p = (10 ∷ [])} (goes (puts32 (module_with size body) input main 10 (i.Call 1 ∷ code) [] ls (omega arith)) here) (writes_once (writes_byte size body input 10 code [] ls (omega arith))))
 
   byte_comes : (b : ℕ) (code : List Instr) (ls : List Value) → b < 256
       → Comes (module_with size body) 2 (b ∷ []) (on main input (i.I32Const b ∷ i.Call 1 ∷ code) [] ls) (on main input code [] ls)
   byte_comes b code ls small =
-      comes_on _ 1 1 [] (b ∷ []) _ _ _ (goes _ _ _ (puts32 (module_with size body) input main b (i.Call 1 ∷ code) [] ls (omega arith))) (writes _ _ _ _ (writes_byte size body input b code [] ls small))
+      comes_on {k = 1} {l = 1} {o = []} {p = (b ∷ [])} (goes (puts32 (module_with size body) input main b (i.Call 1 ∷ code) [] ls (omega arith)) here) (writes_once (writes_byte size body input b code [] ls small))
 
   -- bytes, and then what comes next
   bytes_come : (bs : List ℕ) (k : ℕ) (out : List ℕ) (code : List Instr) (ls : List Value) (d : Config) → AreBytes bs
@@ -256,15 +257,15 @@ module _ (size : ℕ) (body : List Instr) (input : List ℤ) where
   bytes_come (b ∷ bs) k out code ls d h rest =
       let P : ℕ → Type 0 = λ j. Comes (module_with size body) j (b ∷ bs ++ out) (on main input (bytes_code (b ∷ bs) ++ code) [] ls) d in
       let count : 2 + (2 * length bs + k) ≡ 2 * length (b ∷ bs) + k = omega arith in
-      subst P count (comes_on _ 2 (2 * length bs + k) (b ∷ []) (bs ++ out) _ _ _ (byte_comes b (bytes_code bs ++ code) ls h.0) (bytes_come bs k out code ls d h.1 rest))
+      subst P count (comes_on {k = 2} {l = (2 * length bs + k)} {o = (b ∷ [])} {p = (bs ++ out)} (byte_comes b (bytes_code bs ++ code) ls h.0) (bytes_come bs k out code ls d h.1 rest))
 
   farewell_comes : (word : List ℕ) (local n : ℕ) (code : List Instr) (ls : List Value) → AreBytes word → n < 2 ^ 63 → slice_get ls local ≡ Some (I64 n)
       → Comes (module_with size body) (2 * length word + 6) (word ++ 32 ∷ line (pos n)) (on main input (farewell_code word local ++ code) [] ls) (on main input code [] ls)
   farewell_comes word local n code ls are small is =
       rw (append_assoc (bytes_code word) (i.I32Const 32 ∷ i.Call 1 ∷ i.LocalGet local ∷ line_code) code)
       (bytes_come word 6 (32 ∷ line (pos n)) (i.I32Const 32 ∷ i.Call 1 ∷ i.LocalGet local ∷ (line_code ++ code)) ls (on main input code [] ls) are
-      (comes_on _ 2 4 (32 ∷ []) (line (pos n)) _ _ _ (byte_comes 32 (i.LocalGet local ∷ (line_code ++ code)) ls (omega arith))
-      (comes_on _ 1 3 [] (line (pos n)) _ _ _ (goes _ _ _ (gets (module_with size body) input local (I64 n) (line_code ++ code) [] ls is (omega arith))) (line_comes n code ls small))))
+      (comes_on {k = 2} {l = 4} {o = (32 ∷ [])} {p = (line (pos n))} (byte_comes 32 (i.LocalGet local ∷ (line_code ++ code)) ls (omega arith))
+      (comes_on {k = 1} {l = 3} {o = []} {p = (line (pos n))} (goes (gets (module_with size body) input local (I64 n) (line_code ++ code) [] ls is (omega arith)) here) (line_comes n code ls small))))
 
   -- ---- destruction
 
@@ -326,12 +327,12 @@ module _ (size : ℕ) (body : List Instr) (input : List ℤ) where
     let_gives store store' ns s keyword name type e ss b n k last scratch h after short comes rest =
         let rest_code = statements_code ds (locals_for store') ss in
         let set = sets (module_with size body) input (suc (length ns)) n 0 rest_code [] (locals last ns (I64 0 ∷ replicate (lets ss) (I64 0))) (next_local ns (I64 last) (I64 0) (replicate (lets ss) (I64 0))) in
-        let here = rw (set_next ns (I64 last) (I64 0) n (replicate (lets ss) (I64 0))) at set in
-        let kept = rw (← same_length store ns h) at here in
+        let bound_to_it = rw (set_next ns (I64 last) (I64 0) n (replicate (lets ss) (I64 0))) at set in
+        let kept = rw (← same_length store ns h) at bound_to_it in
         let more = length-append ns (n ∷ []) in
         rw (append_assoc (value_code (locals_for store) e) (i.LocalSet (suc (length (locals_for store))) ∷ []) (statements_code ds (locals_after ds (locals_for store) (let_in s keyword name type e)) ss), after)
         (matches_within (k + 1 + cost (length (ns ++ n ∷ [])) ss) (cost (length ns) (stm (let_in s keyword name type e) ss)) _ _ b.outcome (omega (arith, short, more))
-        (matches_on (k + 1) (cost (length (ns ++ n ∷ [])) ss) [] _ _ _ b.outcome (comes_on _ k 1 [] [] _ _ _ comes (goes _ _ _ kept)) (rest last)))
+        (matches_on (k + 1) (cost (length (ns ++ n ∷ [])) ss) [] _ _ _ b.outcome (comes_on {k = k} {l = 1} {o = []} {p = []} comes (goes kept here)) (rest last)))
 
     -- a sum is bound to a name, as a number or as the field of a struct
     let_sum : (store : Store) (ns : List ℕ) (s : Span) (keyword : Keyword) (name : Name) (type : Option Name) (e sum : Exp) (ss : Stms) (bound : ℤ → Val) (next : ℤ → Behaviour) (r : Sum)
@@ -369,7 +370,7 @@ module _ (size : ℕ) (body : List Instr) (input : List ℤ) where
         subst P (sym runs.1)
         (rw (append_assoc (sum_code (locals_for store) e) line_code (statements_code ds (locals_for store) ss))
         (matches_within (sum.0 + 3 + cost (length ns) ss) (cost (length ns) (stm (evaluate (call s callee (arg label (value e) no_args))) ss)) _ _ b.outcome (omega (arith, sum.2, few))
-        (matches_on (sum.0 + 3) (cost (length ns) ss) (line (pos n)) b.output _ _ b.outcome (comes_on _ sum.0 3 [] (line (pos n)) _ _ _ sum.3 (line_comes n (statements_code ds (locals_for store) ss) (locals sum.1 ns (replicate (lets ss) (I64 0))) runs.2)) (rest sum.1))))
+        (matches_on (sum.0 + 3) (cost (length ns) ss) (line (pos n)) b.output _ _ b.outcome (comes_on {k = sum.0} {l = 3} {o = []} {p = (line (pos n))} sum.3 (line_comes n (statements_code ds (locals_for store) ss) (locals sum.1 ns (replicate (lets ss) (I64 0))) runs.2)) (rest sum.1))))
     print_sum store ns s callee label e ss b (Overflows at) few runs rest = λ scratch.
         let fall = runs (line_code ++ statements_code ds (locals_for store) ss) scratch (replicate (lets ss) (I64 0)) in
         rw (append_assoc (sum_code (locals_for store) e) line_code (statements_code ds (locals_for store) ss))
@@ -387,7 +388,7 @@ module _ (size : ℕ) (body : List Instr) (input : List ℤ) where
         → Follow store ns (stm (let_in s keyword name type (path p)) ss) b
     let_taken store store' ns s keyword name type p ss v b h known after rest = λ scratch.
         let_gives store (bound_to name.text v store') ns s keyword name type (path p) ss b known.n 1 scratch scratch h after (omega arith)
-        (goes _ _ _ (gets (module_with size body) input (local_of (locals_for store) (root_of p)) (I64 known.n) (i.LocalSet (suc (length (locals_for store))) ∷ statements_code ds (locals_for (bound_to name.text v store')) ss) [] (locals scratch ns (I64 0 ∷ replicate (lets ss) (I64 0))) (known.local (I64 scratch) (I64 0 ∷ replicate (lets ss) (I64 0))) (omega arith)))
+        (goes (gets (module_with size body) input (local_of (locals_for store) (root_of p)) (I64 known.n) (i.LocalSet (suc (length (locals_for store))) ∷ statements_code ds (locals_for (bound_to name.text v store')) ss) [] (locals scratch ns (I64 0 ∷ replicate (lets ss) (I64 0))) (known.local (I64 scratch) (I64 0 ∷ replicate (lets ss) (I64 0))) (omega arith)) here)
         (rest known.n known.small known.is)
 
     moved_locals : (store store' : Store) (s : Span) (keyword : Keyword) (name : Name) (type : Option Name) (p : Path) (v : Val) → p.fields ≡ []
@@ -500,7 +501,7 @@ module _ (size : ℕ) (body : List Instr) (input : List ℤ) where
 
     pub follow : (turns births : ℕ) (store : Store) (ns : List ℕ) (ss : Stms) → Holds store ns → AreStatements ss → Follow store ns ss (statements_run ds turns births store ss)
     follow turns births store ns no_stms h are = λ scratch.
-        let ended = ends_follow store ns 1 turns 1 [] (locals scratch ns []) (λ left. silent Ended) h (reads_later (I64 scratch) (held ns ++ []) 0 ns (reads_held ns [])) (λ left. (1, omega arith, ends _ _ (finishes (module_with size body) input (locals scratch ns [])))) in
+        let ended = ends_follow store ns 1 turns 1 [] (locals scratch ns []) (λ left. silent Ended) h (reads_later (I64 scratch) (held ns ++ []) 0 ns (reads_held ns [])) (λ left. (1, omega arith, ends (finishes (module_with size body) input (locals scratch ns [])))) in
         let whole = rw (append-nil (ends_code ds 1 (locals_for store))) at ended in
         matches_within (90 * length ns + 1) (cost (length ns) no_stms) _ _ (all_destroyed ds MAIN_LEVEL turns store (λ left. silent Ended)).outcome (omega arith) whole
     follow turns births store ns (stm (let_in s keyword name type (call at callee (arg label (value e) no_args))) ss) h are =

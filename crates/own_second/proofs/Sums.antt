@@ -23,7 +23,8 @@ use Rattle.own_meaning.specs.Run.{Val, int, instance, hole, Store, Sum, Gives, O
 use Rattle.own_meaning.specs.Scoped.{atoms}
 use Rattle.own_second.specs.declared.lower.Local.{Local}
 use Rattle.own_second.specs.Lower.{sum_code, add_code, local_of, root_of, module_with}
-use Rattle.own_second.proofs.Paths.{Comes, Falls, goes, traps, comes_on, falls_on}
+use Rattle.wasm_laws.specs.Stretches.{Comes, Falls}
+use Rattle.wasm_laws.proofs.Stretches.{goes, here, traps, comes_on, falls_on}
 use Rattle.own_second.proofs.Opcodes.{on, main, puts64, gets, adds_exactly, tees, compares, enters_second, enters_first, leaves, puts32, traps_at, not_below, below}
 
 -- ---- values and locals
@@ -140,7 +141,7 @@ module _ (size : ℕ) (body : List Instr) (input : List ℤ) where
   AtomRuns store ns e Strays = Unit {0}
 
   number_runs : (store : Store) (ns : List ℕ) (s : Span) (negative : Bool) (n : ℕ) → n < 2 ^ 63 → AtomRuns store ns (number s negative n) (value_of store (number s negative n))
-  number_runs store ns s false n small = (n, refl, small, λ code stack scratch zs few. goes (module_with size body) _ _ (puts64 (module_with size body) input n code stack (locals scratch ns zs) few))
+  number_runs store ns s false n small = (n, refl, small, λ code stack scratch zs few. goes (puts64 (module_with size body) input n code stack (locals scratch ns zs) few) here)
   number_runs store ns s true n small = tt
 
   got : (store : Store) (ns : List ℕ) (p : Path) (v : Val) (found : IsFound store ns (root_of p) v) (r : Sum) → PathGives found.n r → AtomRuns store ns (path p) r
@@ -148,7 +149,7 @@ module _ (size : ℕ) (body : List Instr) (input : List ℤ) where
     known.n,
     gives,
     known.small,
-    λ code stack scratch zs few. goes (module_with size body) _ _ (gets (module_with size body) input (local_of (locals_for store) (root_of p)) (I64 known.n) code stack (locals scratch ns zs) (known.local (I64 scratch) zs) few),
+    λ code stack scratch zs few. goes (gets (module_with size body) input (local_of (locals_for store) (root_of p)) (I64 known.n) code stack (locals scratch ns zs) (known.local (I64 scratch) zs) few) here,
   )
   got store ns p v known (Overflows at) gives = gives
   got store ns p v known Touches gives = tt
@@ -191,11 +192,11 @@ module _ (size : ℕ) (body : List Instr) (input : List ℤ) where
       → Comes (module_with size body) 4 [] (on main input (i.I64Add ∷ i.LocalTee 0 ∷ i.I64Const 0 ∷ i.I64LtS ∷ code) (I64 y ∷ I64 x ∷ []) (I64 scratch ∷ ls)) (on main input code (truth (ilt_s w64 (x + y) 0) ∷ []) (I64 (x + y) ∷ ls))
   added x y code scratch ls fits =
       let whole : (x + y) % 2 ^ 64 ≡ x + y = omega arith in
-      comes_on _ 3 1 [] [] _ _ _ (comes_on _ 2 1 [] [] _ _ _ (comes_on _ 1 1 [] [] _ _ _
-      (goes _ _ _ (adds_exactly (module_with size body) input x y (i.LocalTee 0 ∷ i.I64Const 0 ∷ i.I64LtS ∷ code) [] (I64 scratch ∷ ls) whole))
-      (goes _ _ _ (tees (module_with size body) input (x + y) scratch (i.I64Const 0 ∷ i.I64LtS ∷ code) [] ls)))
-      (goes _ _ _ (puts64 (module_with size body) input 0 (i.I64LtS ∷ code) (I64 (x + y) ∷ []) (I64 (x + y) ∷ ls) (omega arith))))
-      (goes _ _ _ (compares (module_with size body) input (x + y) 0 code [] (I64 (x + y) ∷ ls)))
+      comes_on {k = 3} {l = 1} {o = []} {p = []} (comes_on {k = 2} {l = 1} {o = []} {p = []} (comes_on {k = 1} {l = 1} {o = []} {p = []}
+      (goes (adds_exactly (module_with size body) input x y (i.LocalTee 0 ∷ i.I64Const 0 ∷ i.I64LtS ∷ code) [] (I64 scratch ∷ ls) whole) here)
+      (goes (tees (module_with size body) input (x + y) scratch (i.I64Const 0 ∷ i.I64LtS ∷ code) [] ls) here))
+      (goes (puts64 (module_with size body) input 0 (i.I64LtS ∷ code) (I64 (x + y) ∷ []) (I64 (x + y) ∷ ls) (omega arith)) here))
+      (goes (compares (module_with size body) input (x + y) 0 code [] (I64 (x + y) ∷ ls)) here)
 
   -- where the sum is an Int it is left alone on the stack
   pub sum_fits : (x y : ℕ) (at : ℕ) (code : List Instr) (scratch : ℕ) (ls : List Value) → x + y < 2 ^ 63
@@ -203,11 +204,11 @@ module _ (size : ℕ) (body : List Instr) (input : List ℤ) where
   sum_fits x y at code scratch ls small =
       let test = added x y (i.If None (i.I32Const 1 ∷ i.I32Const at ∷ i.Call 2 ∷ []) [] ∷ i.LocalGet 0 ∷ code) scratch ls (omega arith) in
       let passes = rw (not_below (x + y) small) at test in
-      comes_on _ 6 1 [] [] _ _ _ (comes_on _ 5 1 [] [] _ _ _ (comes_on _ 4 1 [] [] _ _ _
+      comes_on {k = 6} {l = 1} {o = []} {p = []} (comes_on {k = 5} {l = 1} {o = []} {p = []} (comes_on {k = 4} {l = 1} {o = []} {p = []}
       passes
-      (goes _ _ _ (enters_second (module_with size body) input (i.I32Const 1 ∷ i.I32Const at ∷ i.Call 2 ∷ []) (i.LocalGet 0 ∷ code) [] (I64 (x + y) ∷ ls))))
-      (goes _ _ _ (leaves (module_with size body) input (i.LocalGet 0 ∷ code) [] (I64 (x + y) ∷ ls))))
-      (goes _ _ _ (gets (module_with size body) input 0 (I64 (x + y)) code [] (I64 (x + y) ∷ ls) refl (omega arith)))
+      (goes (enters_second (module_with size body) input (i.I32Const 1 ∷ i.I32Const at ∷ i.Call 2 ∷ []) (i.LocalGet 0 ∷ code) [] (I64 (x + y) ∷ ls)) here))
+      (goes (leaves (module_with size body) input (i.LocalGet 0 ∷ code) [] (I64 (x + y) ∷ ls)) here))
+      (goes (gets (module_with size body) input 0 (I64 (x + y)) code [] (I64 (x + y) ∷ ls) refl (omega arith)) here)
 
   -- else it traps
   pub sum_traps : (x y : ℕ) (at : ℕ) (code : List Instr) (scratch : ℕ) (ls : List Value) → x < 2 ^ 63 → y < 2 ^ 63 → 2 ^ 63 ≤ x + y
@@ -216,12 +217,12 @@ module _ (size : ℕ) (body : List Instr) (input : List ℤ) where
       let test = added x y (i.If None (i.I32Const 1 ∷ i.I32Const at ∷ i.Call 2 ∷ []) [] ∷ i.LocalGet 0 ∷ code) scratch ls (omega arith) in
       let fits : x + y < 2 ^ 64 = omega arith in
       let passes = rw (below (x + y) large fits) at test in
-      falls_on _ 7 1 [] [] _ _ _ _ (comes_on _ 6 1 [] [] _ _ _ (comes_on _ 5 1 [] [] _ _ _ (comes_on _ 4 1 [] [] _ _ _
+      falls_on {k = 7} {l = 1} {o = []} {p = []} (comes_on {k = 6} {l = 1} {o = []} {p = []} (comes_on {k = 5} {l = 1} {o = []} {p = []} (comes_on {k = 4} {l = 1} {o = []} {p = []}
       passes
-      (goes _ _ _ (enters_first (module_with size body) input (i.I32Const 1 ∷ i.I32Const at ∷ i.Call 2 ∷ []) (i.LocalGet 0 ∷ code) [] (I64 (x + y) ∷ ls))))
-      (goes _ _ _ (puts32 (module_with size body) input (Label [] None (i.LocalGet 0 ∷ code) (i.LocalGet 0 ∷ code) ∷ main) 1 (i.I32Const at ∷ i.Call 2 ∷ []) [] (I64 (x + y) ∷ ls) (omega arith))))
-      (goes _ _ _ (puts32 (module_with size body) input (Label [] None (i.LocalGet 0 ∷ code) (i.LocalGet 0 ∷ code) ∷ main) at (i.Call 2 ∷ []) (I32 1 ∷ []) (I64 (x + y) ∷ ls) (omega arith))))
-      (traps _ _ _ _ (traps_at size body input (Label [] None (i.LocalGet 0 ∷ code) (i.LocalGet 0 ∷ code) ∷ main) 1 at [] [] (I64 (x + y) ∷ ls)))
+      (goes (enters_first (module_with size body) input (i.I32Const 1 ∷ i.I32Const at ∷ i.Call 2 ∷ []) (i.LocalGet 0 ∷ code) [] (I64 (x + y) ∷ ls)) here))
+      (goes (puts32 (module_with size body) input (Label [] None (i.LocalGet 0 ∷ code) (i.LocalGet 0 ∷ code) ∷ main) 1 (i.I32Const at ∷ i.Call 2 ∷ []) [] (I64 (x + y) ∷ ls) (omega arith)) here))
+      (goes (puts32 (module_with size body) input (Label [] None (i.LocalGet 0 ∷ code) (i.LocalGet 0 ∷ code) ∷ main) at (i.Call 2 ∷ []) (I32 1 ∷ []) (I64 (x + y) ∷ ls) (omega arith)) here))
+      (traps (traps_at size body input (Label [] None (i.LocalGet 0 ∷ code) (i.LocalGet 0 ∷ code) ∷ main) 1 at [] [] (I64 (x + y) ∷ ls)))
 
   -- ---- whole sums
 
@@ -265,7 +266,7 @@ module _ (size : ℕ) (body : List Instr) (input : List ℤ) where
           x + y,
           omega (arith, first.2),
           rw (addition_code (locals_for store) s at a b code)
-              (comes_on _ (first.0 + 1) 7 [] [] _ _ _ (comes_on _ first.0 1 [] [] _ _ _ first.3 (right (add_code at.start ++ code) (I64 x ∷ []) first.1 zs (omega arith)))
+              (comes_on {k = (first.0 + 1)} {l = 7} {o = []} {p = []} (comes_on {k = first.0} {l = 1} {o = []} {p = []} first.3 (right (add_code at.start ++ code) (I64 x ∷ []) first.1 zs (omega arith)))
               (sum_fits x y at.start code first.1 (held ns ++ zs) fits)),
         ),
   )
@@ -277,7 +278,7 @@ module _ (size : ℕ) (body : List Instr) (input : List ℤ) where
         first.0 + 1 + 8,
         omega (arith, first.2),
         rw (addition_code (locals_for store) s at a b code)
-            (falls_on _ (first.0 + 1) 8 [] [] _ _ _ _ (comes_on _ first.0 1 [] [] _ _ _ first.3 (right (add_code at.start ++ code) (I64 x ∷ []) first.1 zs (omega arith)))
+            (falls_on {k = (first.0 + 1)} {l = 8} {o = []} {p = []} (comes_on {k = first.0} {l = 1} {o = []} {p = []} first.3 (right (add_code at.start ++ code) (I64 x ∷ []) first.1 zs (omega arith)))
             (sum_traps x y at.start code first.1 (held ns ++ zs) small small_y large)),
       )
 
