@@ -3,7 +3,5 @@
 
 mod codes;
 pub mod places;
-#[cfg(test)]
-mod tests;
 
 pub use codes::checked;

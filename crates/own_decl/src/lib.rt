@@ -6,8 +6,6 @@ mod file;
 mod members;
 mod parse_file;
 mod read;
-#[cfg(test)]
-mod tests;
 mod types;
 
 pub use parse_file::parse;

@@ -15,6 +15,3 @@ pub use laws::{
     first_missing_is_one, forms_are_apart, forms_are_ordered, forms_are_small, has_value_is_exact,
     values_have_forms,
 };
-
-#[cfg(test)]
-mod tests;

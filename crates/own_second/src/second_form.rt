@@ -181,6 +181,3 @@ pub fn read_form(alloc: Global, text: &[u8]) -> Result<Option<Tree>, AllocError>
         Err(Unread::Memory) => Err(AllocError),
     }
 }
-
-#[cfg(test)]
-mod tests;

@@ -14,8 +14,6 @@ mod measure;
 mod order;
 mod resolve;
 pub mod table;
-#[cfg(test)]
-mod tests;
 
 pub use error::{TableError, Unfit};
 pub use extent::Over;

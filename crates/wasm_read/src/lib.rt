@@ -19,6 +19,3 @@ mod types;
 pub use fault::ReadError;
 pub use laws::spelling_law;
 pub use module::read_module;
-
-#[cfg(test)]
-mod tests;

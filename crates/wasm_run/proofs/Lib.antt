@@ -7,5 +7,4 @@ mod Nesting
 mod Room
 mod Runs
 mod Stack
-mod Template
 mod Zeros

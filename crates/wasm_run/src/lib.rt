@@ -3,7 +3,5 @@
 
 mod machine;
 mod state;
-#[cfg(test)]
-mod tests;
 
 pub use machine::{Machine, Ran};

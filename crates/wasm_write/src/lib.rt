@@ -8,6 +8,3 @@ mod module;
 mod number;
 
 pub use module::write_module;
-
-#[cfg(test)]
-mod tests;

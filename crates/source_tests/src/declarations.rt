@@ -1,4 +1,4 @@
-use crate::parse;
+use own_decl::parse;
 use own_lex::lex;
 use own_tree::ParseError;
 use shown::put_tree;

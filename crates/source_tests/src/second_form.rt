@@ -1,4 +1,4 @@
-use super::read_form;
+use own_second::second_form::read_form;
 use own_tree::Span;
 use own_tree::limits::MOST_TEXT_BYTES;
 use own_tree::tree::{Argument, Declaration, Expr, Keyword, Passed, Stmt, StructMember, Tree};

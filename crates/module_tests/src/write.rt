@@ -1,4 +1,4 @@
-use super::*;
+use wasm_write::write_module;
 use own_tree::{Bytes, Row};
 use sqlite_items::Items;
 use std::alloc::{AllocError, Global};

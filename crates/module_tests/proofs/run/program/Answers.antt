@@ -1,8 +1,8 @@
 use Rattle.std.proofs.Common.{◌≡◌, ap, ◌∙◌, rules, subst, sym, ◌≤◌}
 use Rattle.std.specs.Prelude.{IsTrue, true}
 use Rattle.wasm_form.specs.Within.{IsWithin, nest}
-use Rattle.wasm_run.proofs.Template.{template, template_is_within}
-use Rattle.wasm_run.proofs.tests.program.Goals as goal
+use Rattle.module_tests.proofs.Template.{template, template_is_within}
+use Rattle.module_tests.proofs.run.program.Goals as goal
 
 pub returns : goal.returns
 returns c =

@@ -1,4 +1,4 @@
-use crate::checked;
+use low_arith::checked;
 use own_tree::Arith;
 use std::test::Fail;
 

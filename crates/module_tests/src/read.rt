@@ -1,4 +1,4 @@
-use super::*;
+use wasm_read::{ReadError, read_module};
 use std::alloc::{AllocError, Global};
 use std::test::*;
 use wasm_form::limits::{ModuleLimit, Outside};

@@ -1,4 +1,4 @@
-use super::*;
+use own_table::*;
 use own_tree::{Bytes, Row, Ty};
 use std::alloc::{AllocError, Global};
 use std::test::*;

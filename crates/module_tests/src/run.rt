@@ -4,7 +4,7 @@ ghost use Rattle.wasm_form.specs.declared.instr.Instr.{out-Instr};
 ghost use Rattle.wasm_form.specs.declared.types.ValueType.TheVariants as type;
 ghost use Rattle.wasm_form.proofs.Nests.{nest_of};
 
-use crate::{Machine, Ran};
+use wasm_run::{Machine, Ran};
 use own_io::MemorySink;
 use own_tree::Row;
 use sqlite_items::Items;

@@ -1,4 +1,4 @@
-use super::*;
+use own_match::cover;
 use own_table::{CaseInfo, FieldInfo, TypeInfo, TypeTable};
 use own_tree::{Bytes, Cover, Row, TPattern, Ty};
 use sqlite_items::Items;
