@@ -1,1 +1,2 @@
+mod Nesting
 mod Template

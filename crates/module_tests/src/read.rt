@@ -1,7 +1,7 @@
-use wasm_read::{ReadError, read_module};
 use std::alloc::{AllocError, Global};
 use std::test::*;
 use wasm_form::limits::{ModuleLimit, Outside};
+use wasm_read::{ReadError, read_module};
 
 /// A `main` of no parameters and no results that does nothing.
 const Q: [u8; 34] = [

@@ -4,7 +4,6 @@ ghost use Rattle.wasm_form.specs.declared.instr.Instr.{out-Instr};
 ghost use Rattle.wasm_form.specs.declared.types.ValueType.TheVariants as type;
 ghost use Rattle.wasm_form.proofs.Nests.{nest_of};
 
-use wasm_run::{Machine, Ran};
 use own_io::MemorySink;
 use own_tree::Row;
 use sqlite_items::Items;
@@ -13,6 +12,7 @@ use std::test::Fail;
 use wasm_form::{
     CodeEntry, Export, ExportKind, FunctionType, HostCall, Import, Instr, Module, ValueType,
 };
+use wasm_run::{Machine, Ran};
 
 fn is_flat(instr: &Instr) -> bool
     ensures { IsTrue result → nest_of (out-Instr instr.now) ≤ 0 }

@@ -1,9 +1,9 @@
-use wasm_write::write_module;
 use own_tree::{Bytes, Row};
 use sqlite_items::Items;
 use std::alloc::{AllocError, Global};
 use std::test::*;
 use wasm_form::{CodeEntry, Export, ExportKind, FunctionType, Module};
+use wasm_write::write_module;
 
 /// A `main` of no parameters and no results that does nothing.
 fn nothing_done(alloc: Global) -> Result<Module, AllocError> {

@@ -3,7 +3,6 @@ mod Args
 mod Call
 mod Find
 mod Laid
-mod Nesting
 mod Room
 mod Runs
 mod Stack

@@ -2,7 +2,7 @@ use Rattle.std.proofs.Common.{◌≤◌, rules, subst}
 use Rattle.std.specs.Prelude.{IsTrue, true}
 use Rattle.wasm_form.specs.declared.instr.Instr.{Instr, out-Instr}
 use Rattle.wasm_form.proofs.Nests.{nest_of}
-use Rattle.wasm_run.proofs.Nesting.{nest_more}
+use Rattle.module_tests.proofs.Nesting.{nest_more}
 use Rattle.module_tests.proofs.run.are_flat.Goals as goal
 
 pub loop-instr-preserved : goal.loop-instr-preserved
