@@ -1,6 +1,6 @@
 //! Blocks, with what spells them.
 
-ghost use Rattle.std.specs.Prelude.{◌≡◌, ◌≤◌, ◌<◌, ◌+◌, ◌-◌, ◌^◌, ◌⊎◌, drop, length, IfOk};
+ghost use Rattle.std.specs.Prelude.{◌≡◌, ◌≤◌, ◌<◌, ◌+◌, ◌-◌, ◌^◌, ◌⊎◌, Err, drop, length, IfOk};
 ghost use Rattle.own_expr.specs.Blocks.{OnSyntax, OnDepth, Answers};
 ghost use Rattle.own_grammar.specs.Levels.{levels_blk, levels_pb};
 ghost use Rattle.own_grammar.specs.Nesting.{nest_blk};
@@ -9,6 +9,7 @@ ghost use Rattle.own_grammar.specs.Spells.{SpellsB};
 ghost use Rattle.own_grammar.specs.Tests.{Toks};
 ghost use Rattle.own_tree.specs.Source.{Blk};
 ghost use Rattle.own_tree.specs.View.{block_view};
+ghost use Rattle.own_tree.specs.declared.error.ParseError.TheVariants as parse_error;
 
 use crate::fault::ReadError;
 use crate::read::body_goal;
@@ -71,6 +72,8 @@ pub fn parse_block(
     // The tokens before the one named stand in a level too deep.
     ensures deep { OnDepth result (λ token. (p : PBlk) × PartB p (drop from tokens.now) (drop token tokens.now) × ((MOST_NESTING < depth + nest_pb p) ⊎ (MOST_PATTERN_LEVELS < levels_pb p))) }
     ensures deep_place { OnDepth result (λ token. (from ≤ token) × (token ≤ length tokens.now)) }
+    // No level is left to the block, whatever stands there.
+    ensures full { MOST_NESTING ≤ depth → result ≡ Err (parse_error.Depth from) }
 {
     if depth >= MOST_NESTING {
         return Err(ParseError::Depth { token: from });
