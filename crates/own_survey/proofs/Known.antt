@@ -1,88 +1,142 @@
--- A map of names knows the first type of each name.
-use Rattle.std.proofs.Common.{◌≡◌, ℕ, suc, ◌<◌, Bool, true, false, List, [], ◌∷◌, ◌++◌, map, length, take, get_or, Option, Some, None, refl, sym, ap, ◌∙◌, append-nil}
-use Rattle.std.specs.Prelude.{not, is_some}
-use Rattle.std.specs.Option.{option_copied}
+-- A map of names knows the first type of each name, and so what each name names.
+use Rattle.std.proofs.Common.{◌≡◌, ℕ, suc, ◌+◌, ◌<◌, ◌≤◌, Bool, true, false, List, [], ◌∷◌, ◌++◌, length, map, take, drop, get_or, Option, Some, None, refl, sym, ap, ◌∙◌, arith, length-append}
+use Rattle.std.specs.Prelude.{if◌then◌else◌, codes, is_some}
 use Rattle.std.specs.Borrow.{Bor}
 use Rattle.std.specs.Map.{lookup}
+use Rattle.std.specs.Option.{option_or}
 use Rattle.std.specs.Str.{bytes_eq}
-use Rattle.std.proofs.Math.Seq.{take-suc}
-use Rattle.std.proofs.lemmas.List.{map-append}
+use Rattle.std.proofs.lemmas.List.{take_more, take-append-drop, map-append}
 use Rattle.std.proofs.lemmas.Slice.Eq.{bytes_eq-Decides}
+use Rattle.own_tree.specs.declared.limits.TheConstants.{MOST_TYPES}
+use Rattle.own_tree.specs.declared.place.Ty.{Ty}
+use Rattle.own_tree.specs.declared.place.Ty.TheVariants as type
 use Rattle.own_tree.specs.declared.tree.Declaration.{Declaration}
-use Rattle.own_tree.specs.declared.tree.Name.{Name}
 use Rattle.own_tree.specs.Source.{Decl, struct_of, enum_of, function}
 use Rattle.own_tree.specs.View.{declaration_view}
-use Rattle.own_survey.specs.Names.{named_by, flag_of, Knows}
-use Rattle.own_shapes.specs.Types.{Declared, declared_as, declared_types}
-use Rattle.own_survey.proofs.Numbered.{declared_types-append, or_else, chosen, lookup-append}
+use Rattle.own_survey.specs.declared.names.NamedType.{NamedType}
+use Rattle.own_survey.specs.declared.names.TypeNames.{TypeNames}
+use Rattle.own_survey.specs.declared.survey.Written.{Written}
+use Rattle.own_survey.specs.declared.survey.Written.TheVariants as written
+use Rattle.own_survey.specs.Judgements.{declared_as_written, written_name}
+use Rattle.own_survey.specs.Names.{Entries, entry_of, first_named, Knows, AddsName, Adds, written_by, written_in, type_by, type_in}
+use Rattle.own_shapes.specs.Types.{Declared, declared_types, declared_as, type_number, named, written_type}
 
-flag-append : (ds es : List Declared) (name : List ℕ) → flag_of (ds ++ es) name ≡ or_else (flag_of ds name) (flag_of es name)
-unfolding or_else
-flag-append [] es name = refl
-flag-append (d ∷ ds) es name = rw (flag-append ds es name) (chosen (bytes_eq name d.name.text) d.noncopyable (flag_of ds name) (flag_of es name))
+same_answer : (a b : Bool) → (a ≡ true → b ≡ true) → (b ≡ true → a ≡ true) → a ≡ b
+same_answer true b f g = sym (f refl)
+same_answer false true f g = g refl
+same_answer false false f g = refl
 
--- a name that is known has no later type
-stays : (ds : List Declared) (d : Declared) (name : List ℕ) (b : Bool) → flag_of ds d.name.text ≡ Some b → flag_of (ds ++ d ∷ []) name ≡ flag_of ds name
-unfolding or_else
-stays ds d name b has =
-    let P : Bool → Type 0 = λ same. bytes_eq name d.name.text ≡ same → flag_of (ds ++ d ∷ []) name ≡ flag_of ds name in
-    elim (bytes_eq name d.name.text) as P [
-      | true ↦ λ e. (let is = (bytes_eq-Decides name d.name.text).0 e in flag-append ds (d ∷ []) name ∙ rw (is, has) refl)
-      | false ↦ λ e. flag-append ds (d ∷ []) name ∙ rw e (by (flag_of ds name))
-    ] refl
+pub turned : (xs ys : List ℕ) → bytes_eq xs ys ≡ bytes_eq ys xs
+turned xs ys =
+    let there = bytes_eq-Decides xs ys in let back = bytes_eq-Decides ys xs in
+    same_answer (bytes_eq xs ys) (bytes_eq ys xs) (λ e. back.1 (sym (there.0 e))) (λ e. there.1 (sym (back.0 e)))
+
+pub none_there : {X : Type 0} (o : Option X) → is_some o ≡ false → o ≡ None
+none_there None e = refl
+none_there (Some x) e = absurd cc
+
+-- ---- names in a map, in order
+
+chosen : {A : Type 0} (b : Bool) (x : A) (o p : Option A) → (if b then Some x else option_or o p) ≡ option_or (if b then Some x else o) p
+chosen true x o p = refl
+chosen false x o p = refl
+
+lookup-append : {K X : Type 0} (test : K → Bool) (es fs : List (K × X)) → lookup test (es ++ fs) ≡ option_or (lookup test es) (lookup test fs)
+lookup-append test [] fs = refl
+lookup-append test (e ∷ es) fs = rw (lookup-append test es fs) (chosen (test e.0) e.1 (lookup test es) (lookup test fs))
+
+-- a name that was not there is added
+pub name_added : (old : Entries) (name : Bor (List ℕ)) (type : NamedType) → AddsName old (old ++ (name, type) ∷ []) name.now type
+name_added old name type wanted = lookup-append (λ k. bytes_eq wanted k.now) old ((name, type) ∷ [])
+
+-- ---- more declarations
+
+first_named-append : (before : ℕ) (ds es : List Declared) (name : List ℕ)
+    → first_named before (ds ++ es) name ≡ option_or (first_named before ds name) (first_named (before + length ds) es name)
+first_named-append before [] es name = ap (λ n. first_named n es name) (let z : before ≡ before + 0 = omega arith in z)
+first_named-append before (d ∷ ds) es name =
+    ap (λ o. if bytes_eq name d.name.text then Some (record { number = before; noncopyable = d.noncopyable }) else o)
+    (first_named-append (suc before) ds es name
+    ∙ ap (λ n. option_or (first_named (suc before) ds name) (first_named n es name)) (let z : suc before + length ds ≡ before + suc (length ds) = omega arith in z))
+    ∙ chosen (bytes_eq name d.name.text) (record { number = before; noncopyable = d.noncopyable }) (first_named (suc before) ds name) (first_named (before + suc (length ds)) es name)
+
+pub declared_types-append : (xs ys : List Decl) → declared_types (xs ++ ys) ≡ declared_types xs ++ declared_types ys
+declared_types-append [] ys = refl
+declared_types-append (struct_of s name noncopyable ms ∷ xs) ys = ap (λ ds. declared_as false name noncopyable ms ∷ ds) (declared_types-append xs ys)
+declared_types-append (enum_of s name noncopyable ms ∷ xs) ys = ap (λ ds. declared_as true name noncopyable ms ∷ ds) (declared_types-append xs ys)
+declared_types-append (function f ∷ xs) ys = declared_types-append xs ys
+
+-- one turn of the loop over the declarations
+module _ (xs : List Declaration) (i : ℕ) (x : Declaration) (lt : i < length xs) (is : x ≡ get_or xs i x) where
+  abbrev front : List Declared
+  front = declared_types (map declaration_view (take i xs))
+
+  more : declared_types (map declaration_view (take (i + 1) xs)) ≡ front ++ declared_types (declaration_view x ∷ [])
+  more =
+      ap (λ l. declared_types (map declaration_view l)) (take_more xs i x lt)
+      ∙ ap (λ y. declared_types (map declaration_view (take i xs ++ y ∷ []))) (sym is)
+      ∙ ap declared_types (map-append declaration_view (take i xs) (x ∷ []))
+      ∙ declared_types-append (map declaration_view (take i xs)) (declaration_view x ∷ [])
+
+  pub knows_next : (old new : Entries) (count : ℕ) → Knows old front → count ≡ length front → Adds old new count (declared_types (declaration_view x ∷ []))
+      → Knows new (declared_types (map declaration_view (take (i + 1) xs)))
+  knows_next old new count knows counted adds name =
+      adds name
+      ∙ ap (λ o. option_or o (first_named count (declared_types (declaration_view x ∷ [])) name)) (knows name)
+      ∙ ap (λ n. option_or (first_named 0 front name) (first_named n (declared_types (declaration_view x ∷ [])) name)) (counted ∙ (let z : length front ≡ 0 + length front = omega arith in z))
+      ∙ sym (first_named-append 0 front (declared_types (declaration_view x ∷ [])) name)
+      ∙ ap (λ ds. first_named 0 ds name) (sym more)
+
+  pub counted_next : (count next : ℕ) → count ≡ length front → next ≡ count + length (declared_types (declaration_view x ∷ []))
+      → next ≡ length (declared_types (map declaration_view (take (i + 1) xs)))
+  counted_next count next counted becomes =
+      becomes ∙ ap (λ n. n + length (declared_types (declaration_view x ∷ []))) counted ∙ sym (length-append front (declared_types (declaration_view x ∷ []))) ∙ ap length (sym more)
+
+-- a front has no more types
+declared_front : (xs : List Declaration) (i : ℕ) → length (declared_types (map declaration_view (take i xs))) ≤ length (declared_types (map declaration_view xs))
+declared_front xs i =
+    let front = declared_types (map declaration_view (take i xs)) in
+    let back = declared_types (map declaration_view (drop i xs)) in
+    let all : declared_types (map declaration_view xs) ≡ front ++ back =
+    ap (λ l. declared_types (map declaration_view l)) (sym (take-append-drop i xs))
+    ∙ ap declared_types (map-append declaration_view (take i xs) (drop i xs))
+    ∙ declared_types-append (map declaration_view (take i xs)) (map declaration_view (drop i xs)) in
+    omega (arith, length-append front back, ap length all)
+
+pub count_fits : (xs : List Declaration) (i count : ℕ) → count ≡ length (declared_types (map declaration_view (take i xs))) → length (declared_types (map declaration_view xs)) ≤ MOST_TYPES → count ≤ MOST_TYPES
+count_fits xs i count counted few = omega (arith, counted, few, declared_front xs i)
+
+-- ---- what a name names
+
+written_is : (before : ℕ) (ds : List Declared) (name : List ℕ) → written_by (first_named before ds name) ≡ declared_as_written ds name
+written_is before [] name = refl
+written_is before (d ∷ ds) name = by (bytes_eq name d.name.text) (written_is (suc before) ds name)
   where
-    by : (o : Option Bool) → or_else o None ≡ o
-    by None = refl
-    by (Some x) = refl
+    by : (b : Bool) → written_by (first_named (suc before) ds name) ≡ declared_as_written ds name
+        → written_by (if b then Some (record { number = before; noncopyable = d.noncopyable }) else first_named (suc before) ds name)
+        ≡ (if b then (if d.noncopyable then written.Noncopyable else written.Copyable) else declared_as_written ds name)
+    by true rest = refl
+    by false rest = rest
 
--- one more declaration
-abbrev Joins : List (Bor (List ℕ) × Bool) → List (Bor (List ℕ) × Bool) → List Decl → Decl → Type 0
-Joins before after ds d = Knows before (declared_types ds) → Knows after (declared_types (ds ++ d ∷ []))
+type_is : (before : ℕ) (ds : List Declared) (name : List ℕ) → type_by (first_named before ds name) ≡ named (type_number before ds name)
+type_is before [] name = refl
+type_is before (d ∷ ds) name =
+    by (bytes_eq name d.name.text) (type_is (suc before) ds name)
+    ∙ ap (λ b. named (if b then Some before else type_number (suc before) ds name)) (turned name d.name.text)
+  where
+    by : (b : Bool) → type_by (first_named (suc before) ds name) ≡ named (type_number (suc before) ds name)
+        → type_by (if b then Some (record { number = before; noncopyable = d.noncopyable }) else first_named (suc before) ds name)
+        ≡ named (if b then Some before else type_number (suc before) ds name)
+    by true rest = refl
+    by false rest = rest
 
-no_type : (entries : List (Bor (List ℕ) × Bool)) (ds : List Decl) (d : Decl) → named_by None d → Joins entries entries ds d
-no_type entries ds (struct_of s name noncopyable ms) not_one knows = absurd not_one
-no_type entries ds (enum_of s name noncopyable ms) not_one knows = absurd not_one
-no_type entries ds (function f) not_one knows = λ n. knows n ∙ ap (λ es. flag_of es n) (sym (declared_types-append ds (function f ∷ []) ∙ append-nil (declared_types ds)))
+module _ (names : TypeNames) (ds : List Declared) (knows : Knows names.types.entries ds) (name : List ℕ) where
+  pub written_known : written_in names name ≡ written_name ds name
+  written_known =
+      ap (λ x. if bytes_eq name (codes "Int") then written.Copyable else (if bytes_eq name (codes "Bool") then written.Copyable else x))
+      (ap written_by (knows name) ∙ written_is 0 ds name)
 
-known_type : (entries : List (Bor (List ℕ) × Bool)) (ds : List Decl) (d : Declared) (b : Bool) → Knows entries (declared_types ds) → lookup (λ k. bytes_eq d.name.text k.now) entries ≡ Some b
-    → Knows entries (declared_types ds ++ d ∷ [])
-known_type entries ds d b knows had = λ n. knows n ∙ sym (stays (declared_types ds) d n b (sym (knows d.name.text) ∙ had))
-
-new_type : (entries : List (Bor (List ℕ) × Bool)) (ds : List Decl) (d : Declared) (text : Bor (List ℕ)) → text.now ≡ d.name.text → Knows entries (declared_types ds)
-    → Knows (entries ++ (text, d.noncopyable) ∷ []) (declared_types ds ++ d ∷ [])
-unfolding or_else
-new_type entries ds d text is knows = λ n.
-    lookup-append (λ k. bytes_eq n k.now) entries ((text, d.noncopyable) ∷ []) ∙ rw (knows n, is) (sym (flag-append (declared_types ds) (d ∷ []) n))
-
-pub had : (entries : List (Bor (List ℕ) × Bool)) (ds : List Decl) (d : Decl) (name : Bor Name) (flag b : Bool) → named_by (Some (name, flag)) d
-    → lookup (λ k. bytes_eq name.now.text k.now) entries ≡ Some b → Joins entries entries ds d
-had entries ds (struct_of s n noncopyable ms) name flag b is found knows =
-    rw (declared_types-append ds (struct_of s n noncopyable ms ∷ [])) (known_type entries ds (declared_as false n noncopyable ms) b knows (rw is.0 at found))
-had entries ds (enum_of s n noncopyable ms) name flag b is found knows =
-    rw (declared_types-append ds (enum_of s n noncopyable ms ∷ [])) (known_type entries ds (declared_as true n noncopyable ms) b knows (rw is.0 at found))
-had entries ds (function f) name flag b is found knows = absurd is
-
-pub joined : (entries : List (Bor (List ℕ) × Bool)) (ds : List Decl) (d : Decl) (name : Bor Name) (flag : Bool) (text : Bor (List ℕ)) → named_by (Some (name, flag)) d → text.now ≡ name.now.text
-    → Joins entries (entries ++ (text, flag) ∷ []) ds d
-joined entries ds (struct_of s n noncopyable ms) name flag text is at knows =
-    rw (declared_types-append ds (struct_of s n noncopyable ms ∷ []), is.1) (new_type entries ds (declared_as false n noncopyable ms) text (at ∙ ap (λ m. m.text) is.0) knows)
-joined entries ds (enum_of s n noncopyable ms) name flag text is at knows =
-    rw (declared_types-append ds (enum_of s n noncopyable ms ∷ []), is.1) (new_type entries ds (declared_as true n noncopyable ms) text (at ∙ ap (λ m. m.text) is.0) knows)
-joined entries ds (function f) name flag text is at knows = absurd is
-
-pub skipped : (entries : List (Bor (List ℕ) × Bool)) (ds : List Decl) (d : Decl) → named_by None d → Joins entries entries ds d
-skipped = no_type
-
-pub nothing_copied : {A : Type 0} (o : Option (Bor A)) (b : Bool) → is_some o ≡ not b → b ≡ true → option_copied o ≡ None
-nothing_copied None b e t = refl
-nothing_copied (Some x) b e t = absurd (let f = rw t at e in cc)
-
-pub one_copied : {A : Type 0} (o : Option (Bor A)) (b : Bool) → is_some o ≡ not b → b ≡ false → (x : A) × (option_copied o ≡ Some x)
-one_copied None b e t = absurd (let f = rw t at e in cc)
-one_copied (Some x) b e t = (x.now, refl)
-
--- one declaration more
-pub next_declared : (ds : List Declaration) (i : ℕ) (d : Declaration) → i < length ds → d ≡ get_or ds i d
-    → map declaration_view (take (suc i) ds) ≡ map declaration_view (take i ds) ++ declaration_view d ∷ []
-next_declared ds i d lt is =
-    ap (map declaration_view) (take-suc ds i d lt) ∙ map-append declaration_view (take i ds) (get_or ds i d ∷ []) ∙ ap (λ x. map declaration_view (take i ds) ++ declaration_view x ∷ []) (sym is)
+  pub type_known : type_in names name ≡ written_type ds name
+  type_known =
+      ap (λ x. if bytes_eq name (codes "Int") then type.Int else (if bytes_eq name (codes "Bool") then type.Bool else x))
+      (ap type_by (knows name) ∙ type_is 0 ds name)

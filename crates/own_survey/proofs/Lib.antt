@@ -1,4 +1,3 @@
-pub mod Numbered
 pub mod Repeats
 pub mod Known
 pub mod Walked

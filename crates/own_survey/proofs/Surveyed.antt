@@ -17,13 +17,14 @@ use Rattle.own_survey.specs.declared.survey.Survey.{Survey}
 use Rattle.own_survey.specs.declared.survey.Written.{Written}
 use Rattle.own_survey.specs.declared.survey.Written.TheVariants as written
 use Rattle.own_survey.specs.declared.names.TypeNames.{TypeNames}
-use Rattle.own_survey.specs.Judgements.{nothing, note, notes, declared_as_written, written_name}
-use Rattle.own_survey.specs.Names.{flag_of, Knows, written_by, written_in}
+use Rattle.own_survey.specs.Judgements.{nothing, note, notes, written_name}
+use Rattle.own_survey.specs.Names.{Knows, written_in}
 use Rattle.own_shapes.specs.Spans.{opening}
 use Rattle.own_survey.specs.Parts.{Part, a_body, a_case, a_print, a_content, a_lifetime, a_method, a_top, a_main, no_main, a_scope, a_type, a_parameter, arg_count, print_call, written_part, pat_names, local_names, closure_names, pats_parts, exp_parts, given_parts, args_parts, closure_parts, stm_parts, stms_parts, when_parts, clauses_parts, block_parts, result_parts, parts_of_result, inner_parts, parameter_type_parts, parameters_parts, parameter_names, taking_parts, function_parts, payload_parts, case_parts, member_parts, main_parts, declared_parts, last_parts, file_parts, declared_name, has_main, member_names, struct_home, enum_home, word_of, MAIN}
 use Rattle.own_survey.specs.TextWalks.{home_after, parameter_walk, inner_walk, given_result_walk, parameter_type_walk, parameters_walk, taking_walk, function_walk, content_walk, payloads_walk, cases_walk, members_walk, main_walk, declarations_walk, file_walk}
-use Rattle.own_shapes.specs.Types.{Declared, declared_types}
+use Rattle.own_shapes.specs.Types.{declared_types}
 use Rattle.own_survey.specs.Walks.{scope_walk, pats_walk, exp_walk, given_walk, args_walk, closure_walk, stm_walk, stms_walk, when_walk, clauses_walk, block_walk}
+use Rattle.own_survey.proofs.Known.{written_known}
 
 module _ (w : List ℕ → Written) where
   -- a walk that notes these parts
@@ -210,24 +211,11 @@ notes_same : (f g : List ℕ → Written) → ((n : List ℕ) → f n ≡ g n) �
 notes_same f g e v [] = refl
 notes_same f g e v (p ∷ ps) = ap (λ x. notes f x ps) (note_same f g e v p) ∙ notes_same f g e (note g v p) ps
 
-flag_is : (ds : List Declared) (name : List ℕ) → written_by (flag_of ds name) ≡ declared_as_written ds name
-flag_is [] name = refl
-flag_is (d ∷ ds) name = by (bytes_eq name d.name.text) d.noncopyable (flag_of ds name) (declared_as_written ds name) (flag_is ds name)
-  where
-    by : (b c : Bool) (o : Option Bool) (x : Written) → written_by o ≡ x
-        → written_by (if b then Some c else o) ≡ (if b then (if c then written.Noncopyable else written.Copyable) else x)
-    by true true o x e = refl
-    by true false o x e = refl
-    by false c o x e = e
-
-known_is : (names : TypeNames) (ds : List Declared) → Knows names.types.entries ds → (name : List ℕ) → written_in names name ≡ written_name ds name
-known_is names ds knows name = rw (knows name, flag_is ds name) refl
-
 -- the parts of a text, judged by its own types
 pub text_noted : (names : TypeNames) (file : File) → Knows names.types.entries (declared_types file.declarations)
     → file_walk (written_in names) file ≡ notes (written_name (declared_types file.declarations)) nothing (file_parts file)
 text_noted names file knows =
-    file_noted (written_in names) file ∙ notes_same (written_in names) (written_name (declared_types file.declarations)) (known_is names (declared_types file.declarations) knows) nothing (file_parts file)
+    file_noted (written_in names) file ∙ notes_same (written_in names) (written_name (declared_types file.declarations)) (written_known names (declared_types file.declarations) knows) nothing (file_parts file)
 
 pub if_ok : {A E : Type 0} (r : Result A E) (P Q : A → Type 0) → ((x : A) → P x → Q x) → IfOk r P → IfOk r Q
 if_ok (Ok x) P Q f h = f x h

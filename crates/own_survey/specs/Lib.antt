@@ -2,7 +2,6 @@ pub mod Parts
 pub mod Limits
 pub mod Judgements
 pub mod Names
-pub mod Numbers
 pub mod Walks
 pub mod TextWalks
 pub mod Laws

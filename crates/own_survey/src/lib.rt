@@ -4,9 +4,8 @@
 mod declarations;
 mod expressions;
 pub mod laws;
-mod names;
+pub mod names;
 mod notes;
-pub mod numbers;
 mod scopes;
 pub mod survey;
 pub mod text;

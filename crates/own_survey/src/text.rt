@@ -3,7 +3,7 @@
 ghost use Rattle.std.specs.Prelude.{◌≡◌, ◌++◌, OnOk, IfOk, map};
 ghost use Rattle.own_tree.specs.View.{struct_member_view, enum_member_view, declaration_view, function_view, tree_view};
 ghost use Rattle.own_survey.specs.Judgements.{is_reserved as reserved, notes, nothing, written_name};
-ghost use Rattle.own_survey.specs.Names.{written_in};
+ghost use Rattle.own_survey.specs.Names.{Knows, written_in};
 ghost use Rattle.own_survey.specs.Parts.{file_parts, is_main as main_declared, declared_name, has_main, gives_nothing, item_names, names_of_member, member_names};
 ghost use Rattle.own_shapes.specs.Types.{declared_types};
 ghost use Rattle.own_survey.specs.TextWalks.{top_walk, main_walk, declaration_walk, declarations_walk, file_walk};
@@ -254,10 +254,11 @@ fn survey_of(alloc: Global, names: &TypeNames, tree: &Tree) -> Result<Survey, Al
 }
 
 /// What a text has that is counted and judged before its bodies are typed: its bodies (M6), what takes too
-/// much (M7), and the judgement of the type table but T03 that is false at the earliest place.
-pub fn survey(alloc: Global, tree: &Tree) -> Result<Survey, AllocError>
+/// much (M7), and the judgement of the type table but T03 that is false at the earliest place. The names are
+/// those of its types.
+pub fn survey(alloc: Global, names: &TypeNames, tree: &Tree) -> Result<Survey, AllocError>
+    requires { Knows names.now.types.entries (declared_types (tree_view tree.now).declarations) }
     ensures { IfOk result (λ found. found ≡ notes (written_name (declared_types (tree_view tree.now).declarations)) nothing (file_parts (tree_view tree.now))) }
 {
-    let names = TypeNames::new(alloc, tree.declarations.as_slice())?;
-    survey_of(alloc, &names, tree)
+    survey_of(alloc, names, tree)
 }

@@ -35,7 +35,7 @@ use Rattle.own_table.specs.TypeLimits.{at_name, at_span, counts_of}
 use Rattle.own_shapes.specs.Types.{Types, Declared, declared_types, type_number, written_type, resolved_field, resolved_case, resolved, resolved_types, field_types, all_case_types, contained, is_part, types_resolved, types_declared, types_of, PartsAreTypes, ContainsIn, NoneContainsItself}
 use Rattle.own_shapes.proofs.Lists.{get_in, In, contains_in}
 use Rattle.own_survey.proofs.Judged.{fault_is_false, nothing_is_false, taken_is, bodies_are, bodies_fit, extra_is}
-use Rattle.own_survey.proofs.Numbered.{turned}
+use Rattle.own_survey.proofs.Known.{turned}
 use Rattle.own_survey.proofs.PartsIn.{text_field, text_case, text_payload}
 use Rattle.own_table.specs.Proper.{AreProper}
 use Rattle.own_table.proofs.Held.{all_parts, mapped, no_cases, no_properties, held_proper}

@@ -22,7 +22,7 @@ use Rattle.own_survey.specs.declared.survey.Written.{Written}
 use Rattle.own_survey.specs.declared.survey.Written.TheVariants as written
 use Rattle.own_survey.specs.Judgements.{declared_as_written, written_name, content_fault, fault_unless, fault_of}
 use Rattle.own_survey.specs.Parts.{Part, a_content, a_lifetime, file_parts}
-use Rattle.own_survey.proofs.Numbered.{turned}
+use Rattle.own_survey.proofs.Known.{turned}
 use Rattle.own_survey.proofs.PartsIn.{text_content, text_payload_content, text_deinit}
 use Rattle.own_table.specs.Proper.{declares_copyable, is_copyable_among, IsProper, AreProper}
 use Rattle.own_table.proofs.Resolved.{enum_fields, struct_cases}

@@ -13,10 +13,11 @@ use Rattle.own_tree.specs.View.{declaration_view, enum_member_view, struct_membe
 use Rattle.own_shapes.specs.declared.info.CaseInfo.{CaseInfo}
 use Rattle.own_shapes.specs.declared.info.FieldInfo.{FieldInfo}
 use Rattle.own_shapes.specs.declared.info.TypeInfo.{TypeInfo}
-use Rattle.own_survey.specs.Numbers.{Numbers, IsNumbering, written_by}
+use Rattle.own_survey.specs.declared.names.TypeNames.{TypeNames}
+use Rattle.own_survey.specs.Names.{Knows, type_in}
 use Rattle.own_table.specs.Resolving.{member_fields, member_cases, declared_infos, is_deinitializer}
 use Rattle.own_shapes.specs.Types.{declared_types, fields_of, cases_of, has_deinit, written_type, resolved_field, resolved_case, resolved_by, resolved_types}
-use Rattle.own_survey.proofs.Numbered.{declared_types-append, written_same}
+use Rattle.own_survey.proofs.Known.{declared_types-append, type_known}
 
 pub more_of : {X Y : Type 0} (F : List X → List Y) → ((xs ys : List X) → F (xs ++ ys) ≡ F xs ++ F ys) → (xs : List X) (i : ℕ) (x : X) → i < length xs → x ≡ get_or xs i x
     → F (take (i + 1) xs) ≡ F (take i xs) ++ F (x ∷ [])
@@ -98,8 +99,8 @@ module _ (type_of : List ℕ → Ty) where
 
 -- ---- by what the names stand for
 
-pub by_numbers : (decls : List Decl) (numbers : Numbers) → IsNumbering decls numbers → declared_infos (written_by numbers) decls ≡ resolved_types (declared_types decls)
-by_numbers decls numbers are = ap (λ type_of. map (resolved_by type_of) (declared_types decls)) same
+pub by_names : (ds : List Decl) (names : TypeNames) → Knows names.types.entries (declared_types ds) → declared_infos (type_in names) ds ≡ resolved_types (declared_types ds)
+by_names ds names knows = ap (λ type_of. map (resolved_by type_of) (declared_types ds)) same
   where
-    same : written_by numbers ≡ written_type (declared_types decls)
-    same = λ i. λ name. written_same decls numbers are name i
+    same : type_in names ≡ written_type (declared_types ds)
+    same = λ i. λ name. type_known names (declared_types ds) knows name i

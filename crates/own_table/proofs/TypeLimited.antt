@@ -13,7 +13,7 @@ use Rattle.own_shapes.specs.Counts.{counted, first_over}
 use Rattle.own_survey.specs.Limits.{type_names, part_counts, are_within, slot_counts}
 use Rattle.own_table.specs.TypeLimits.{at_span, at_name, part_count, counts_of}
 use Rattle.own_shapes.specs.Types.{Types, Declared, declared_types, written_type, resolved_field, resolved_case, slots, contained, resolved, resolved_types, types_resolved}
-use Rattle.own_survey.proofs.Numbered.{declared_types-append}
+use Rattle.own_survey.proofs.Known.{declared_types-append}
 use Rattle.own_table.proofs.Resolved.{more_of}
 
 name_at : (before : List Declared) (d : Declared) (after : List Declared) → slice_get (type_names (before ++ d ∷ after)) (length before) ≡ Some d.name.span

@@ -8,6 +8,7 @@ ghost use Rattle.own_shapes.specs.Types.{declared_types, resolved_types, types_o
 ghost use Rattle.own_survey.specs.declared.survey.Judgement.TheVariants as judgement;
 ghost use Rattle.own_survey.specs.Judgements.{code_of};
 ghost use Rattle.own_survey.specs.Limits.{over_M4, type_names};
+ghost use Rattle.own_survey.specs.Names.{Knows};
 ghost use Rattle.own_table.specs.declared.error.TableError.TheVariants as refused;
 ghost use Rattle.own_table.specs.Building.{HasTable, IsRefused, IsSurveyed, limit_found};
 ghost use Rattle.own_table.specs.Table.{types_in};
@@ -21,6 +22,7 @@ use crate::order::containment_order;
 use crate::resolve::resolved_types;
 use crate::table::TypeTable;
 use own_shapes::{Counted, TypeInfo};
+use own_survey::names::TypeNames;
 use own_survey::text::survey;
 use own_survey::{Fault, Judgement, Survey};
 use own_tree::tree::Tree;
@@ -80,14 +82,21 @@ fn limit_passed(types: &[TypeInfo], spans: &[Span], found: &Survey) -> Option<(L
 }
 
 /// Tests M5, M7, M6 and then the judgements but T03, of a text within M4.
-fn judge(alloc: Global, tree: &Tree, types: &[TypeInfo], spans: &[Span]) -> Result<(), TableError>
+fn judge(
+    alloc: Global,
+    tree: &Tree,
+    names: &TypeNames,
+    types: &[TypeInfo],
+    spans: &[Span],
+) -> Result<(), TableError>
+    requires names { Knows names.now.types.entries (declared_types (tree_view tree.now).declarations) }
     requires types { types.now ≡ resolved_types (declared_types (tree_view tree.now).declarations) }
     requires spans { spans.now ≡ type_names (declared_types (tree_view tree.now).declarations) }
     requires few { over_M4 (tree_view tree.now) ≡ None }
     ensures ok { OnOk result (IsSurveyed (tree_view tree.now)) }
     ensures err { IfErr result (IsRefused (tree_view tree.now)) }
 {
-    let found = survey(alloc, tree)?;
+    let found = survey(alloc, names, tree)?;
     // No memory holds so many bodies that their number is cut off.
     if found.bodies == u64::MAX {
         return Err(TableError::Memory);
@@ -115,8 +124,9 @@ impl TypeTable {
         if let Some(passed) = over_types(spans.as_slice()) {
             return Err(limit(LimitKind::Types, passed));
         }
-        let types = resolved_types(alloc, declarations)?;
-        judge(alloc, tree, types.as_slice(), spans.as_slice())?;
+        let names = TypeNames::new(alloc, declarations)?;
+        let types = resolved_types(alloc, declarations, &names)?;
+        judge(alloc, tree, &names, types.as_slice(), spans.as_slice())?;
         let order = match containment_order(alloc, types.as_slice()) {
             Ok(order) => order,
             Err(Unordered::ContainsItself(number)) => {

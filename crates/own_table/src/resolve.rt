@@ -1,16 +1,14 @@
 //! The declarations of a tree, with each name resolved.
 
-ghost use Rattle.std.specs.Prelude.{true, false, ◌≡◌, ◌≤◌, ◌++◌, ◌∷◌, [], length, map, IfOk, OnOk};
+ghost use Rattle.std.specs.Prelude.{true, false, ◌≡◌, ◌++◌, ◌∷◌, [], map, IfOk, OnOk};
 ghost use Rattle.std.specs.List.{list_any};
-ghost use Rattle.own_tree.specs.declared.limits.TheConstants.{MOST_TYPES};
 ghost use Rattle.own_tree.specs.View.{declaration_view, enum_member_view, struct_member_view};
 ghost use Rattle.own_shapes.specs.Types.{declared_as, declared_types, is_var, resolved_by, resolved_case, resolved_field, resolved_types};
-ghost use Rattle.own_survey.specs.Numbers.{IsNumbering, written_by};
+ghost use Rattle.own_survey.specs.Names.{Knows, type_in};
 ghost use Rattle.own_table.specs.Resolving.{declared_infos, is_deinitializer, member_cases, member_fields};
 
-use indexmap::IndexMap;
 use own_shapes::{CaseInfo, FieldInfo, TypeInfo};
-use own_survey::numbers::{type_numbers, written_type};
+use own_survey::names::TypeNames;
 use own_tree::tree::{
     CaseItem, Declaration, EnumDeclaration, EnumMember, Field, Keyword, Name, StructDeclaration,
     StructMember,
@@ -27,31 +25,28 @@ fn is_var(keyword: Keyword) -> bool
     }
 }
 
-fn field_info<'a>(
-    alloc: Global,
-    field: &'a Field,
-    numbers: &IndexMap<&'a [u8], u32>,
-) -> Result<FieldInfo, AllocError>
-    ensures { IfOk result (λ info. info ≡ resolved_field (written_by numbers.now.entries) field.now) }
+fn field_info(alloc: Global, field: &Field, names: &TypeNames) -> Result<FieldInfo, AllocError>
+    ensures { IfOk result (λ info. info ≡ resolved_field (type_in names.now) field.now) }
 {
     Ok(FieldInfo {
         name: Bytes::from_slice(alloc, field.name.text.as_slice())?,
-        ty: written_type(numbers, field.written.text.as_slice()),
+        ty: names.written_type(field.written.text.as_slice()),
         changes: is_var(field.keyword),
     })
 }
 
-fn push_field<'a>(
+fn push_field(
     alloc: Global,
     fields: &mut Row<FieldInfo>,
-    member: &'a StructMember,
-    numbers: &IndexMap<&'a [u8], u32>,
+    member: &StructMember,
+    names: &TypeNames,
 ) -> Result<(), AllocError>
-    ensures { OnOk result (fields.new ≡ fields.old ++ member_fields (written_by numbers.now.entries) (struct_member_view member.now ∷ [])) }
+    ensures { OnOk result (fields.new ≡ fields.old
+        ++ member_fields (type_in names.now) (struct_member_view member.now ∷ [])) }
 {
     match member {
         StructMember::Field(field) => {
-            fields.push(field_info(alloc, field, numbers)?)?;
+            fields.push(field_info(alloc, field, names)?)?;
             Ok(())
         }
         StructMember::Initializer(_) => Ok(()),
@@ -60,16 +55,16 @@ fn push_field<'a>(
     }
 }
 
-fn struct_fields<'a>(
+fn struct_fields(
     alloc: Global,
-    members: &'a [StructMember],
-    numbers: &IndexMap<&'a [u8], u32>,
+    members: &[StructMember],
+    names: &TypeNames,
 ) -> Result<Row<FieldInfo>, AllocError>
-    ensures { IfOk result (λ fields. fields ≡ member_fields (written_by numbers.now.entries) (map struct_member_view members.now)) }
+    ensures { IfOk result (λ fields. fields ≡ member_fields (type_in names.now) (map struct_member_view members.now)) }
 {
     let mut fields = Row::new(alloc);
     for member in members {
-        push_field(alloc, &mut fields, member, numbers)?;
+        push_field(alloc, &mut fields, member, names)?;
     }
     Ok(fields)
 }
@@ -94,72 +89,65 @@ fn struct_has_deinit(members: &[StructMember]) -> bool
     false
 }
 
-fn written_types<'a>(
-    alloc: Global,
-    names: &'a [Name],
-    numbers: &IndexMap<&'a [u8], u32>,
-) -> Result<Row<Ty>, AllocError>
-    ensures { IfOk result (λ tys. tys ≡ map (λ name. written_by numbers.now.entries name.text) names.now) }
+fn written_types(alloc: Global, written: &[Name], names: &TypeNames) -> Result<Row<Ty>, AllocError>
+    ensures { IfOk result (λ tys. tys ≡ map (λ name. type_in names.now name.text) written.now) }
 {
     let mut tys = Row::new(alloc);
-    for name in names {
-        tys.push(written_type(numbers, name.text.as_slice()))?;
+    for name in written {
+        tys.push(names.written_type(name.text.as_slice()))?;
     }
     Ok(tys)
 }
 
-fn case_info<'a>(
-    alloc: Global,
-    item: &'a CaseItem,
-    numbers: &IndexMap<&'a [u8], u32>,
-) -> Result<CaseInfo, AllocError>
-    ensures { IfOk result (λ info. info ≡ resolved_case (written_by numbers.now.entries) item.now) }
+fn case_info(alloc: Global, item: &CaseItem, names: &TypeNames) -> Result<CaseInfo, AllocError>
+    ensures { IfOk result (λ info. info ≡ resolved_case (type_in names.now) item.now) }
 {
     Ok(CaseInfo {
         name: Bytes::from_slice(alloc, item.name.text.as_slice())?,
-        payloads: written_types(alloc, item.payloads.as_slice(), numbers)?,
+        payloads: written_types(alloc, item.payloads.as_slice(), names)?,
     })
 }
 
-fn push_items<'a>(
+fn push_items(
     alloc: Global,
     cases: &mut Row<CaseInfo>,
-    items: &'a [CaseItem],
-    numbers: &IndexMap<&'a [u8], u32>,
+    items: &[CaseItem],
+    names: &TypeNames,
 ) -> Result<(), AllocError>
-    ensures { OnOk result (cases.new ≡ cases.old ++ map (resolved_case (written_by numbers.now.entries)) items.now) }
+    ensures { OnOk result (cases.new ≡ cases.old ++ map (resolved_case (type_in names.now)) items.now) }
 {
     for item in items {
-        cases.push(case_info(alloc, item, numbers)?)?;
+        cases.push(case_info(alloc, item, names)?)?;
     }
     Ok(())
 }
 
-fn push_cases<'a>(
+fn push_cases(
     alloc: Global,
     cases: &mut Row<CaseInfo>,
-    member: &'a EnumMember,
-    numbers: &IndexMap<&'a [u8], u32>,
+    member: &EnumMember,
+    names: &TypeNames,
 ) -> Result<(), AllocError>
-    ensures { OnOk result (cases.new ≡ cases.old ++ member_cases (written_by numbers.now.entries) (enum_member_view member.now ∷ [])) }
+    ensures { OnOk result (cases.new ≡ cases.old
+        ++ member_cases (type_in names.now) (enum_member_view member.now ∷ [])) }
 {
     match member {
-        EnumMember::Cases(_, items) => push_items(alloc, cases, items.as_slice(), numbers),
+        EnumMember::Cases(_, items) => push_items(alloc, cases, items.as_slice(), names),
         EnumMember::Deinitializer(_) => Ok(()),
         EnumMember::Method(_) => Ok(()),
     }
 }
 
-fn enum_cases<'a>(
+fn enum_cases(
     alloc: Global,
-    members: &'a [EnumMember],
-    numbers: &IndexMap<&'a [u8], u32>,
+    members: &[EnumMember],
+    names: &TypeNames,
 ) -> Result<Row<CaseInfo>, AllocError>
-    ensures { IfOk result (λ cases. cases ≡ member_cases (written_by numbers.now.entries) (map enum_member_view members.now)) }
+    ensures { IfOk result (λ cases. cases ≡ member_cases (type_in names.now) (map enum_member_view members.now)) }
 {
     let mut cases = Row::new(alloc);
     for member in members {
-        push_cases(alloc, &mut cases, member, numbers)?;
+        push_cases(alloc, &mut cases, member, names)?;
     }
     Ok(cases)
 }
@@ -184,12 +172,14 @@ fn enum_has_deinit(members: &[EnumMember]) -> bool
     false
 }
 
-fn struct_info<'a>(
+fn struct_info(
     alloc: Global,
-    tree: &'a StructDeclaration,
-    numbers: &IndexMap<&'a [u8], u32>,
+    tree: &StructDeclaration,
+    names: &TypeNames,
 ) -> Result<TypeInfo, AllocError>
-    ensures { IfOk result (λ info. info ≡ resolved_by (written_by numbers.now.entries) (declared_as false tree.now.name tree.now.noncopyable (map struct_member_view tree.now.members))) }
+    ensures { IfOk result (λ info.
+        info ≡ resolved_by (type_in names.now)
+        (declared_as false tree.now.name tree.now.noncopyable (map struct_member_view tree.now.members))) }
 {
     let members = tree.members.as_slice();
     Ok(TypeInfo {
@@ -197,17 +187,19 @@ fn struct_info<'a>(
         is_enum: false,
         noncopyable: tree.noncopyable,
         has_deinit: struct_has_deinit(members),
-        fields: struct_fields(alloc, members, numbers)?,
+        fields: struct_fields(alloc, members, names)?,
         cases: Row::new(alloc),
     })
 }
 
-fn enum_info<'a>(
+fn enum_info(
     alloc: Global,
-    tree: &'a EnumDeclaration,
-    numbers: &IndexMap<&'a [u8], u32>,
+    tree: &EnumDeclaration,
+    names: &TypeNames,
 ) -> Result<TypeInfo, AllocError>
-    ensures { IfOk result (λ info. info ≡ resolved_by (written_by numbers.now.entries) (declared_as true tree.now.name tree.now.noncopyable (map enum_member_view tree.now.members))) }
+    ensures { IfOk result (λ info.
+        info ≡ resolved_by (type_in names.now)
+        (declared_as true tree.now.name tree.now.noncopyable (map enum_member_view tree.now.members))) }
 {
     let members = tree.members.as_slice();
     Ok(TypeInfo {
@@ -216,41 +208,43 @@ fn enum_info<'a>(
         noncopyable: tree.noncopyable,
         has_deinit: enum_has_deinit(members),
         fields: Row::new(alloc),
-        cases: enum_cases(alloc, members, numbers)?,
+        cases: enum_cases(alloc, members, names)?,
     })
 }
 
-fn push_type<'a>(
+fn push_type(
     alloc: Global,
     infos: &mut Row<TypeInfo>,
-    declaration: &'a Declaration,
-    numbers: &IndexMap<&'a [u8], u32>,
+    declaration: &Declaration,
+    names: &TypeNames,
 ) -> Result<(), AllocError>
-    ensures { OnOk result (infos.new ≡ infos.old ++ declared_infos (written_by numbers.now.entries) (declaration_view declaration.now ∷ [])) }
+    ensures { OnOk result (infos.new ≡ infos.old
+        ++ declared_infos (type_in names.now) (declaration_view declaration.now ∷ [])) }
 {
     match declaration {
         Declaration::Struct(tree) => {
-            infos.push(struct_info(alloc, tree, numbers)?)?;
+            infos.push(struct_info(alloc, tree, names)?)?;
             Ok(())
         }
         Declaration::Enum(tree) => {
-            infos.push(enum_info(alloc, tree, numbers)?)?;
+            infos.push(enum_info(alloc, tree, names)?)?;
             Ok(())
         }
         Declaration::Function(_) => Ok(()),
     }
 }
 
-fn declared_infos<'a>(
+fn declared_infos(
     alloc: Global,
-    declarations: &'a [Declaration],
-    numbers: &IndexMap<&'a [u8], u32>,
+    declarations: &[Declaration],
+    names: &TypeNames,
 ) -> Result<Row<TypeInfo>, AllocError>
-    ensures { IfOk result (λ infos. infos ≡ declared_infos (written_by numbers.now.entries) (map declaration_view declarations.now)) }
+    ensures { IfOk result (λ infos.
+        infos ≡ declared_infos (type_in names.now) (map declaration_view declarations.now)) }
 {
     let mut infos = Row::new(alloc);
     for declaration in declarations {
-        push_type(alloc, &mut infos, declaration, numbers)?;
+        push_type(alloc, &mut infos, declaration, names)?;
     }
     Ok(infos)
 }
@@ -259,10 +253,10 @@ fn declared_infos<'a>(
 pub fn resolved_types(
     alloc: Global,
     declarations: &[Declaration],
+    names: &TypeNames,
 ) -> Result<Row<TypeInfo>, AllocError>
-    requires { length (declared_types (map declaration_view declarations.now)) ≤ MOST_TYPES }
+    requires { Knows names.now.types.entries (declared_types (map declaration_view declarations.now)) }
     ensures { IfOk result (λ infos. infos ≡ resolved_types (declared_types (map declaration_view declarations.now))) }
 {
-    let numbers = type_numbers(alloc, declarations)?;
-    declared_infos(alloc, declarations, &numbers)
+    declared_infos(alloc, declarations, names)
 }

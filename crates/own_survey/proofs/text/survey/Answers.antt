@@ -7,5 +7,5 @@ use Rattle.own_survey.proofs.text.survey.Goals as goal
 
 pub returns : goal.returns
 returns c =
-    if_ok c.survey_of.result (λ found. found ≡ file_walk (written_in c.in_ok-names.names) (tree_view c.args.tree.now)) _
-    (λ found is. is ∙ text_noted c.in_ok-names.names (tree_view c.args.tree.now) (rw c.as_slice.ensures at c.in_ok-names.ensures)) c.survey_of.ensures
+    if_ok c.survey_of.result (λ found. found ≡ file_walk (written_in c.args.names.now) (tree_view c.args.tree.now)) _
+    (λ found is. is ∙ text_noted c.args.names.now (tree_view c.args.tree.now) c.requires) c.survey_of.ensures

@@ -1,13 +1,13 @@
 use Rattle.std.proofs.Common.{◌++◌, ◌∷◌, [], sym, ap, ◌∙◌}
 use Rattle.own_tree.specs.View.{enum_member_view}
-use Rattle.own_survey.specs.Numbers.{written_by}
+use Rattle.own_survey.specs.Names.{type_in}
 use Rattle.own_table.specs.Resolving.{member_cases}
 use Rattle.own_table.proofs.Resolved.{enum_cases_more}
 use Rattle.own_table.proofs.resolve.enum_cases.Goals as goal
 
 pub loop-member-preserved : goal.loop-member-preserved
 loop-member-preserved c =
-    let by = written_by c.args.numbers.now.entries in
+    let by = type_in c.args.names.now in
     c.in_ok-push_cases.ensures
     ∙ ap (λ before. before ++ member_cases by (enum_member_view c.member-item.result ∷ [])) c.loop-member.invariant
     ∙ sym (enum_cases_more by c.args.members.now c.loop-member.member-index c.member-item.result c.loop-member-test.true c.member-item.is)
