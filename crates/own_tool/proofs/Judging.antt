@@ -1,6 +1,5 @@
 -- From what the parts of a call answer to what the call answers.
-use Rattle.std.proofs.Common.{◌≡◌, ◌≢◌, ℕ, ◌<◌, ◌≤◌, inl, inr, List, [], length, take, drop, Some, None, refl, sym, ap, ◌∙◌, subst, append-nil, arith}
-use Rattle.std.proofs.lemmas.List.{take-append-drop, length-take-le}
+use Rattle.std.proofs.Common.{◌≡◌, ◌≢◌, ℕ, ◌≤◌, inl, inr, List, [], length, refl, sym, ap, ◌∙◌, subst, append-nil, arith}
 use Rattle.own_tree.specs.declared.status.Status.{Status}
 use Rattle.own_tree.specs.declared.status.Status.TheVariants as status
 use Rattle.own_tree.specs.Source.{File}
@@ -28,22 +27,14 @@ use Rattle.own_second.specs.Texts.{finding_lines}
 use Rattle.std.specs.Prelude.{Bool, true, false, nat_lt}
 use Rattle.std.proofs.lemmas.Bool.{ltb-true, ltb-false}
 use Rattle.own_second.specs.Lower.{lowered}
-use Rattle.own_tool.specs.Words.{file_to_run}
-use Rattle.own_tool.specs.Texts.{usage_line, memory_line, read_line, too_long_line, not_built_line, trap_line}
-use Rattle.own_tool.specs.Headline.{DEFAULT_STEPS, MOST_BYTES, IsPrefix, IsProperPrefix, Follows, Told, IsContent, AreItsFindings, Accepts, FileAnswers, Answers}
-use Rattle.own_tool.specs.Saying.{Said, IsConcluded}
-use Rattle.own_tool.specs.Judged.{answer_of, line_of, EndsAs, IsJudged, ending_of}
+use Rattle.own_tool.specs.Texts.{memory_line, read_line, too_long_line, not_built_line, trap_line}
+use Rattle.own_tool.specs.Headline.{DEFAULT_STEPS, MOST_BYTES, IsPrefix, IsProperPrefix, Follows, Told, IsContent, AreItsFindings, Accepts, FileAnswers, IsAnswered}
+use Rattle.own_tool.specs.Saying.{Said}
+use Rattle.own_tool.proofs.Answering as answering
+use Rattle.own_tool.specs.Judged.{answer_of, line_of, EndsAs, IsJudged, ending_of, IsConcluded}
 use Rattle.own_second.proofs.Whole.{Agrees, file_agrees}
 use Rattle.std.specs.Prelude.{◌⊎◌}
 use Rattle.own_meaning.specs.Run.{Behaviour}
-
--- ---- parts of a line
-
-pub take_is_front : (xs : List ℕ) (k : ℕ) → k < length xs → IsProperPrefix (take k xs) xs
-take_is_front xs k short = ((drop k xs, sym (take-append-drop k xs)), omega (arith, length-take-le k xs))
-
-pub cut_short : (answer : Status) (line : List ℕ) (k : ℕ) (old new : outside.Told) (faults : Type 0) → k < length line → new ≡ told_after old (take k line) → faults → Said answer line status.WriteFault old new faults
-cut_short answer line k old new faults short part fault = inr (refl, fault, take k line, take_is_front line k short, part)
 
 -- ---- the machine's run and the text's
 
@@ -189,37 +180,20 @@ module _ (folder : Told) (faults : Type 0) (file : List ℕ) where
   wanted text program Cut content short form is a = absurd a
   wanted text program Wrong content short form is a = absurd a
 
-  module _ (faults_of_out faults_of_err : Type 0) (words : List (List ℕ)) (named : file_to_run words ≡ Some file) where
-    -- an answer whose line was said whole
-    whole_answer : (answer : Status) (gained said : List ℕ) → FileAnswers folder faults file answer gained said → Answers folder faults faults_of_out faults_of_err words answer gained said
-    whole_answer status.Done gained said h = rw named h
-    whole_answer status.Refused gained said h = rw named h
-    whole_answer status.Usage gained said h = rw named h
-    whole_answer status.Trapped gained said h = rw named h
-    whole_answer status.OutOfSteps gained said h = rw named h
-    whole_answer status.Memory gained said h = rw named h
-    whole_answer status.ReadFault gained said h = rw named h
-    whole_answer status.WriteFault gained said h = absurd h
-    whole_answer status.BadModule gained said h = rw named h
-
+  module _ (faults_of_out faults_of_err : Type 0) where
     abbrev Concludes : (k_old k_new e_old e_new : outside.Told) → Status → Type 0
-    Concludes k_old k_new e_old e_new result = (gained : List ℕ) × (said : List ℕ) × (k_new ≡ told_after k_old gained) × (e_new ≡ told_after e_old said) × Answers folder faults faults_of_out faults_of_err words result gained said
+    Concludes k_old k_new e_old e_new result = IsAnswered (FileAnswers folder faults file) faults_of_out faults_of_err k_old k_new e_old e_new result
 
-    -- an answer, and its line whole or cut short
-    pub answered : (answer : Status) (gained line : List ℕ) (k_old k_new e_old e_new : outside.Told) (result : Status) → FileAnswers folder faults file answer gained line
+    answered : (answer : Status) (gained line : List ℕ) (k_old k_new e_old e_new : outside.Told) (result : Status) → FileAnswers folder faults file answer gained line
         → k_new ≡ told_after k_old gained → Said answer line result e_old e_new faults_of_err → Concludes k_old k_new e_old e_new result
-    answered answer gained line k_old k_new e_old e_new result h k (inl s) =
-        (gained, line, k, s.1, let P : Status → Type 0 = λ r. Answers folder faults faults_of_out faults_of_err words r gained line in subst P (sym s.0) (whole_answer answer gained line h))
-    answered answer gained line k_old k_new e_old e_new result h k (inr s) =
-        (gained, s.2, k, s.4, let P : Status → Type 0 = λ r. Answers folder faults faults_of_out faults_of_err words r gained s.2 in subst P (sym s.0) (answer, gained, line, rw named h, inr (s.1, refl, s.3)))
+    answered = answering.answered (FileAnswers folder faults file) (λ gained said h. h) faults_of_out faults_of_err
 
     -- after a fault of the output nothing is said
-    pub cut_answered : (text : List ℕ) (program : File) (gained : List ℕ) (k_old k_new e_old e_new : outside.Told) (result : Status) → IsContent folder file text → length text ≤ MOST_BYTES → InForm text program
+    cut_answered : (text : List ℕ) (program : File) (gained : List ℕ) (k_old k_new e_old e_new : outside.Told) (result : Status) → IsContent folder file text → length text ≤ MOST_BYTES → InForm text program
         → faults_of_out → IsProperPrefix gained (run program [] DEFAULT_STEPS).output → k_new ≡ told_after k_old gained → Said status.WriteFault [] result e_old e_new faults_of_err → Concludes k_old k_new e_old e_new result
-    cut_answered text program gained k_old k_new e_old e_new result content short form fault front k (inl s) =
+    cut_answered text program gained k_old k_new e_old e_new result content short form fault front k s =
         let w = wanted text program (run program [] DEFAULT_STEPS).outcome content short form refl (default_agrees text program form) in
-        (gained, [], k, s.1, let P : Status → Type 0 = λ r. Answers folder faults faults_of_out faults_of_err words r gained [] in subst P (sym s.0) (w.0, (run program [] DEFAULT_STEPS).output, w.1, rw named w.2, inl (fault, front, refl)))
-    cut_answered text program gained k_old k_new e_old e_new result content short form fault front k (inr s) = absurd (omega (arith, s.3.1))
+        answering.cut_off (FileAnswers folder faults file) (λ gained said h. h) faults_of_out faults_of_err w.0 (run program [] DEFAULT_STEPS).output gained w.1 k_old k_new e_old e_new result w.2 fault front k s
 
     module _ (k_old k_new e_old e_new : outside.Told) (result : Status) (nothing : told_after k_old [] ≡ k_old) where
       unchanged : k_new ≡ k_old → k_new ≡ told_after k_old []
@@ -268,12 +242,3 @@ module _ (folder : Told) (faults : Type 0) (file : List ℕ) where
       pub file_concluded : (j : Judged) → IsJudged folder faults file j k_old k_new faults_of_out → IsConcluded file j result e_old e_new faults_of_err → Concludes k_old k_new e_old e_new result
       file_concluded j h (inl s) = concluded j h s
       file_concluded j h (inr s) = unsaid j s.0 h s.1
-
--- words that are no command
-pub usage_answered : (folder : Told) (faults faults_of_out faults_of_err : Type 0) (words : List (List ℕ)) (k e_old e_new : outside.Told) (result : Status) → file_to_run words ≡ None → told_after k [] ≡ k
-    → Said status.Usage usage_line result e_old e_new faults_of_err
-    → (gained : List ℕ) × (said : List ℕ) × (k ≡ told_after k gained) × (e_new ≡ told_after e_old said) × Answers folder faults faults_of_out faults_of_err words result gained said
-usage_answered folder faults faults_of_out faults_of_err words k e_old e_new result none nothing (inl s) =
-    ([], usage_line, sym nothing, s.1, let P : Status → Type 0 = λ r. Answers folder faults faults_of_out faults_of_err words r [] usage_line in subst P (sym s.0) (rw none (record { status_is = refl; gained_is = refl; said_is = refl })))
-usage_answered folder faults faults_of_out faults_of_err words k e_old e_new result none nothing (inr s) =
-    ([], s.2, sym nothing, s.4, let P : Status → Type 0 = λ r. Answers folder faults faults_of_out faults_of_err words r [] s.2 in subst P (sym s.0) (status.Usage, [], usage_line, rw none (record { status_is = refl; gained_is = refl; said_is = refl }), inr (s.1, refl, s.3)))

@@ -1,5 +1,6 @@
 -- What a call of the program answers and leaves.
-use Rattle.std.specs.Prelude.{◌≡◌, ◌≢◌, ℕ, ◌+◌, ◌*◌, ◌≤◌, ◌<◌, ◌⊎◌, ℤ, Bool, IsTrue, List, [], ◌++◌, length, Option, Some, None, IsSomeAnd}
+use Rattle.std.specs.Prelude.{◌≡◌, ◌≢◌, ℕ, ◌+◌, ◌*◌, ◌≤◌, ◌<◌, ◌⊎◌, ℤ, Bool, IsTrue}
+use Rattle.std.specs.Prelude.{List, [], ◌++◌, length, Option, Some, None, IsSomeAnd}
 use Rattle.own_tree.specs.declared.status.Status.{Status}
 use Rattle.own_tree.specs.declared.status.Status.TheVariants as status
 use Rattle.own_tree.specs.Source.{File}
@@ -8,8 +9,10 @@ use Rattle.own_meaning.specs.Findings.{AreFindings, uses_of, IsSound}
 use Rattle.own_meaning.specs.Once.{IsUntouched, EndsOnce}
 use Rattle.own_meaning.specs.Run.{Outcome, Ended, Trapped, Cut, run}
 use Rattle.own_second.specs.SecondForm.{IsSecondForm}
-use Rattle.own_tool.specs.Words.{file_to_run}
-use Rattle.own_tool.specs.Texts.{usage_line, memory_line, steps_line, read_line, too_long_line, not_built_line, trap_line}
+use Rattle.own_io.specs.Outside as outside
+use Rattle.own_io.specs.Outside.{told_after}
+use Rattle.own_tool.specs.Texts.{usage_line, memory_line, steps_line, read_line}
+use Rattle.own_tool.specs.Texts.{too_long_line, not_built_line, trap_line}
 use Rattle.own_second.specs.Texts.{finding_lines}
 
 -- ---- runs
@@ -64,7 +67,9 @@ IsContent folder file text = IsTrue folder.tells → folder.held file ≡ Some t
 -- `faults` says that the count of the folder's faults rose in this call.
 
 abbrev pub Accepts : Told → (file text : List ℕ) → File → (gained : List ℕ) → Type 0
-Accepts folder file text program gained = IsContent folder file text × IsAccepted text program × IsOwned program × Follows program [] DEFAULT_STEPS gained
+Accepts folder file text program gained =
+    IsContent folder file text × IsAccepted text program × IsOwned program
+    × Follows program [] DEFAULT_STEPS gained
 
 abbrev pub IsDone : Told → (file gained said : List ℕ) → Type 0
 IsDone folder file gained said =
@@ -91,8 +96,10 @@ AreItsFindings file text said =
 abbrev pub IsRefused : Told → (file gained said : List ℕ) → Type 0
 IsRefused folder file gained said = (gained ≡ []) × (
     ((text : List ℕ) × IsContent folder file text × (length text ≤ MOST_BYTES)
-    × ((((program : File) → IsSecondForm text program → ⊥) × (said ≡ not_built_line file)) ⊎ AreItsFindings file text said))
-    ⊎ ((IsTrue folder.tells → IsSomeAnd (folder.held file) (λ text. MOST_BYTES < length text)) × (said ≡ too_long_line file)))
+    × ((((program : File) → IsSecondForm text program → ⊥) × (said ≡ not_built_line file))
+    ⊎ AreItsFindings file text said))
+    ⊎ ((IsTrue folder.tells → IsSomeAnd (folder.held file) (λ text. MOST_BYTES < length text))
+    × (said ≡ too_long_line file)))
 
 abbrev pub IsReadFault : Told → (faults : Type 0) → (file gained said : List ℕ) → Type 0
 IsReadFault folder faults file gained said =
@@ -101,7 +108,8 @@ IsReadFault folder faults file gained said =
 -- memory may be refused before anything is written, or when what the run wrote stands already
 abbrev pub IsMemory : Told → (file gained said : List ℕ) → Type 0
 IsMemory folder file gained said = (said ≡ memory_line) × (
-    (gained ≡ []) ⊎ ((text : List ℕ) × (program : File) × IsContent folder file text × IsAccepted text program × (gained ≡ (run program [] DEFAULT_STEPS).output)))
+    (gained ≡ []) ⊎ ((text : List ℕ) × (program : File) × IsContent folder file text × IsAccepted text program
+    × (gained ≡ (run program [] DEFAULT_STEPS).output)))
 
 abbrev pub FileAnswers : Told → (faults : Type 0) → (file : List ℕ) → Status → (gained said : List ℕ) → Type 0
 FileAnswers folder faults file status.Done gained said = IsDone folder file gained said
@@ -120,10 +128,6 @@ pub record IsUsage (answer : Status) (gained said : List ℕ) : Type 0 where
   pub gained_is : gained ≡ []
   pub said_is : said ≡ usage_line
 
-abbrev pub WordsAnswer : Told → (faults : Type 0) → Option (List ℕ) → Status → (gained said : List ℕ) → Type 0
-WordsAnswer folder faults None answer gained said = IsUsage answer gained said
-WordsAnswer folder faults (Some file) answer gained said = FileAnswers folder faults file answer gained said
-
 -- ---- failed writes
 
 -- where what was to be written was cut short
@@ -132,14 +136,28 @@ IsProperPrefix front whole = IsPrefix front whole × (length front < length whol
 
 -- a failed write takes the place of the status that would have been answered: on `out`, after which nothing
 -- is said, or on `err`
-abbrev pub IsCutShort : (faults_of_out faults_of_err : Type 0) → (wanted_gain wanted_words gained said : List ℕ) → Type 0
+abbrev pub IsCutShort : (faults_of_out faults_of_err : Type 0)
+    → (wanted_gain wanted_words gained said : List ℕ) → Type 0
 IsCutShort faults_of_out faults_of_err wanted_gain wanted_words gained said =
     (faults_of_out × IsProperPrefix gained wanted_gain × (said ≡ []))
     ⊎ (faults_of_err × (gained ≡ wanted_gain) × IsProperPrefix said wanted_words)
 
--- What a call answers, and what its sinks gained.
-abbrev pub Answers : Told → (faults faults_of_out faults_of_err : Type 0) → List (List ℕ) → Status → (gained said : List ℕ) → Type 0
-Answers folder faults faults_of_out faults_of_err words status.WriteFault gained said =
+-- What each status means, with what `out` and `err` gained, where no write failed. No such meaning has a status of a
+-- failed write.
+abbrev pub Meaning : Type 1
+Meaning = Status → (gained said : List ℕ) → Type 0
+
+-- what is answered is meant so, or it was cut short
+abbrev pub WholeOrCut : Meaning → (faults_of_out faults_of_err : Type 0) → Meaning
+WholeOrCut means faults_of_out faults_of_err status.WriteFault gained said =
     (answer : Status) × (wanted_gain : List ℕ) × (wanted_words : List ℕ)
-    × WordsAnswer folder faults (file_to_run words) answer wanted_gain wanted_words × IsCutShort faults_of_out faults_of_err wanted_gain wanted_words gained said
-Answers folder faults faults_of_out faults_of_err words answer gained said = WordsAnswer folder faults (file_to_run words) answer gained said
+    × means answer wanted_gain wanted_words
+    × IsCutShort faults_of_out faults_of_err wanted_gain wanted_words gained said
+WholeOrCut means faults_of_out faults_of_err answer gained said = means answer gained said
+
+-- a call answered so, from what the two sinks told before it to what they told after it
+abbrev pub IsAnswered : Meaning → (faults_of_out faults_of_err : Type 0)
+    → (out out' err err' : outside.Told) → Status → Type 0
+IsAnswered means faults_of_out faults_of_err out out' err err' answer =
+    (gained : List ℕ) × (said : List ℕ) × (out' ≡ told_after out gained) × (err' ≡ told_after err said)
+    × WholeOrCut means faults_of_out faults_of_err answer gained said

@@ -1,10 +1,11 @@
 //! The top call of the program.
 #![tactic(auto)]
 
+mod exec;
 mod judged;
+mod saying;
 mod texts;
 mod tool;
-mod words;
 
 pub use tool::swiftown;
 

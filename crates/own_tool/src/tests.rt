@@ -8,7 +8,7 @@ use std::alloc::AllocError;
 use std::process::Abort;
 use std::test::Fail;
 
-/// A call: the file under `a.swift`, if there is one, the words, and what is wanted.
+/// A call: what the folder holds under the second word, if anything, the words, and what is wanted.
 #[derive(Clone, Copy)]
 struct Case {
     text: Option<&'static [u8]>,
@@ -18,14 +18,19 @@ struct Case {
     err: &'static str,
 }
 
-/// The calls of the folder and of the output that fail, counted from 1.
+/// The calls of the folder and of the two sinks that fail, counted from 1.
 #[derive(Clone, Copy)]
 struct Faults {
     folder: u64,
     out: u64,
+    err: u64,
 }
 
-const NONE: Faults = Faults { folder: 0, out: 0 };
+const NONE: Faults = Faults {
+    folder: 0,
+    out: 0,
+    err: 0,
+};
 
 const RUN: &[&str] = &["run", "a.swift"];
 
@@ -36,15 +41,15 @@ fn answers<R: Abort + Alloc<A = std::alloc::Global>>(
 ) -> Result<(), Fail> {
     let alloc = rt.alloc();
     let mut folder = MemoryFolder::new(alloc, Row::from_slice(alloc, &[faults.folder])?);
-    if let Some(text) = case.text {
-        folder.put("a.swift", text)?;
+    if let (Some(text), [_, file, ..]) = (case.text, case.words) {
+        folder.put(file, text)?;
     }
     let mut words = Vec::new(alloc);
     for word in case.words {
         words.push(String::from_str(alloc, word)?)?;
     }
     let mut out = MemorySink::new(alloc, 4096, Row::from_slice(alloc, &[faults.out])?)?;
-    let mut err = MemorySink::new(alloc, 4096, Row::new(alloc))?;
+    let mut err = MemorySink::new(alloc, 4096, Row::from_slice(alloc, &[faults.err])?)?;
     let status = swiftown(alloc, words.as_slice(), &mut folder, &mut out, &mut err);
     assert_eq!(rt; status, case.status);
     assert_eq!(rt; out.written(), case.out.as_bytes());
@@ -204,7 +209,7 @@ fn faults_of_the_outside_are_told(rt: HostRuntime) -> Result<(), Fail> {
         out: "",
         err: "cannot read a.swift\n",
     };
-    answers(&rt, &unread, Faults { folder: 1, out: 0 })?;
+    answers(&rt, &unread, Faults { folder: 1, ..NONE })?;
     let unwritten = Case {
         text,
         words: RUN,
@@ -212,7 +217,7 @@ fn faults_of_the_outside_are_told(rt: HostRuntime) -> Result<(), Fail> {
         out: "",
         err: "",
     };
-    answers(&rt, &unwritten, Faults { folder: 0, out: 1 })?;
+    answers(&rt, &unwritten, Faults { out: 1, ..NONE })?;
     let cut = Case {
         text,
         words: RUN,
@@ -220,7 +225,7 @@ fn faults_of_the_outside_are_told(rt: HostRuntime) -> Result<(), Fail> {
         out: "1",
         err: "",
     };
-    answers(&rt, &cut, Faults { folder: 0, out: 2 })
+    answers(&rt, &cut, Faults { out: 2, ..NONE })
 }
 
 /// A text of so many bytes: a `main` that does nothing, and blanks in it.
@@ -260,6 +265,195 @@ fn a_text_has_at_most_1048576_bytes(rt: HostRuntime) -> Result<(), Fail> {
         assert_eq!(rt; answer, status);
         assert_eq!(rt; err.written(), said.as_bytes());
         assert!(rt; out.written().is_empty());
+    }
+    Ok(())
+}
+
+/// `main` does nothing.
+const EMPTY: Option<&[u8]> = Some(
+    b"\x00asm\x01\x00\x00\x00\x01\x04\x01`\x00\x00\x03\x02\x01\x00\x07\x08\x01\x04main\x00\x00\x0a\x04\x01\x02\x00\x0b",
+);
+
+/// `main` reads a number and writes it.
+const ECHO: Option<&[u8]> = Some(
+    b"\x00asm\x01\x00\x00\x00\x01\x0c\x03`\x00\x01~`\x01~\x00`\x00\x00\x02*\x02\x08swiftown\x08read_int\x00\x00\x08swiftown\x09write_int\x00\x01\x03\x02\x01\x02\x07\x08\x01\x04main\x00\x02\x0a\x08\x01\x06\x00\x10\x00\x10\x01\x0b",
+);
+
+/// `main` traps with the code 7 and the offset 9.
+const TRAP: Option<&[u8]> = Some(
+    b"\x00asm\x01\x00\x00\x00\x01\x09\x02`\x02\x7f\x7f\x00`\x00\x00\x02\x11\x01\x08swiftown\x04trap\x00\x00\x03\x02\x01\x01\x07\x08\x01\x04main\x00\x01\x0a\x0a\x01\x08\x00A\x07A\x09\x10\x00\x0b",
+);
+
+const EXEC: &[&str] = &["exec", "m.wasm"];
+
+fn executes(
+    text: Option<&'static [u8]>,
+    words: &'static [&'static str],
+    status: Status,
+    out: &'static str,
+    err: &'static str,
+) -> Case {
+    Case {
+        text,
+        words,
+        status,
+        out,
+        err,
+    }
+}
+
+#[test]
+fn a_module_runs_on_its_steps_and_its_input(rt: HostRuntime) -> Result<(), Fail> {
+    let cases = [
+        executes(EMPTY, EXEC, Status::Done, "", ""),
+        executes(
+            EMPTY,
+            &["exec", "m.wasm", "--steps", "1"],
+            Status::Done,
+            "",
+            "",
+        ),
+        executes(
+            EMPTY,
+            &["exec", "m.wasm", "--steps=0"],
+            Status::OutOfSteps,
+            "",
+            "out of steps\n",
+        ),
+        executes(ECHO, EXEC, Status::Done, "0", ""),
+        executes(
+            ECHO,
+            &["exec", "m.wasm", "--", "-9223372036854775808", "5"],
+            Status::Done,
+            "-9223372036854775808",
+            "",
+        ),
+        executes(
+            ECHO,
+            &["exec", "m.wasm", "9223372036854775807"],
+            Status::Done,
+            "9223372036854775807",
+            "",
+        ),
+        executes(
+            ECHO,
+            &["exec", "m.wasm", "1", "--steps", "1"],
+            Status::OutOfSteps,
+            "",
+            "out of steps\n",
+        ),
+        executes(TRAP, EXEC, Status::Trapped, "", "m.wasm: trap 7 at 9\n"),
+        executes(None, EXEC, Status::ReadFault, "", "cannot read m.wasm\n"),
+        executes(
+            Some(b"\0asm"),
+            EXEC,
+            Status::BadModule,
+            "",
+            "m.wasm: bad module: not a module at 4\n",
+        ),
+        executes(
+            Some(b"\0asm\x01\0\0\0"),
+            EXEC,
+            Status::BadModule,
+            "",
+            "m.wasm: bad module: no function main\n",
+        ),
+        executes(
+            Some(b"\0asm\x01\0\0\0\x08\x01\x00"),
+            EXEC,
+            Status::BadModule,
+            "",
+            "m.wasm: bad module: outside the profile at 8: start\n",
+        ),
+        executes(
+            Some(b"\0asm\x01\0\0\0\x01\x04\x91\x4e\x60\0"),
+            EXEC,
+            Status::BadModule,
+            "",
+            "m.wasm: bad module: limit: types\n",
+        ),
+    ];
+    for case in &cases {
+        answers(&rt, case, NONE)?;
+    }
+    Ok(())
+}
+
+/// `main` reads a number and writes it, twice.
+const TWICE: Option<&[u8]> = Some(
+    b"\x00asm\x01\x00\x00\x00\x01\x0c\x03`\x00\x01~`\x01~\x00`\x00\x00\x02*\x02\x08swiftown\x08read_int\x00\x00\x08swiftown\x09write_int\x00\x01\x03\x02\x01\x02\x07\x08\x01\x04main\x00\x02\x0a\x0c\x01\x0a\x00\x10\x00\x10\x01\x10\x00\x10\x01\x0b",
+);
+
+const TWO: &[&str] = &["exec", "m.wasm", "7", "8"];
+
+const USAGE: &str = "usage: swiftown COMMAND ARGUMENTS\n";
+
+/// Each call of the folder and of the two sinks that `exec` makes, failing in turn.
+#[test]
+fn faults_of_exec_are_told(rt: HostRuntime) -> Result<(), Fail> {
+    let cases = [
+        (
+            executes(TWICE, TWO, Status::ReadFault, "", "cannot read m.wasm\n"),
+            Faults { folder: 1, ..NONE },
+        ),
+        (
+            executes(TWICE, TWO, Status::WriteFault, "", ""),
+            Faults { out: 1, ..NONE },
+        ),
+        (
+            executes(TWICE, TWO, Status::WriteFault, "7", ""),
+            Faults { out: 2, ..NONE },
+        ),
+        (
+            executes(TWICE, TWO, Status::Done, "78", ""),
+            Faults {
+                folder: 2,
+                out: 3,
+                err: 1,
+            },
+        ),
+        (
+            executes(TRAP, EXEC, Status::WriteFault, "", ""),
+            Faults { err: 1, ..NONE },
+        ),
+        (
+            executes(TRAP, EXEC, Status::Trapped, "", "m.wasm: trap 7 at 9\n"),
+            Faults { err: 2, ..NONE },
+        ),
+        (
+            executes(Some(b""), EXEC, Status::WriteFault, "", ""),
+            Faults { err: 1, ..NONE },
+        ),
+        (
+            executes(None, EXEC, Status::WriteFault, "", ""),
+            Faults { err: 1, ..NONE },
+        ),
+    ];
+    for (case, faults) in &cases {
+        answers(&rt, case, *faults)?;
+    }
+    Ok(())
+}
+
+/// Where nothing is served, the folder and the output are not called.
+#[test]
+fn other_words_are_answered_by_the_usage(rt: HostRuntime) -> Result<(), Fail> {
+    let all = Faults {
+        folder: 1,
+        out: 1,
+        err: 0,
+    };
+    let words: [&'static [&'static str]; 7] = [
+        &["exec"],
+        &["exec", "m.wasm", "--step", "1"],
+        &["exec", "m.wasm", "-1"],
+        &["check", "m.wasm"],
+        &["build", "m.wasm", "-o", "n.wasm"],
+        &["run", "m.wasm", "--steps", "1"],
+        &["selftest", "1", "1"],
+    ];
+    for words in words {
+        answers(&rt, &executes(None, words, Status::Usage, "", USAGE), all)?;
     }
     Ok(())
 }

@@ -1,11 +1,12 @@
 //! The top call.
 
-ghost use Rattle.std.specs.Prelude.{◌≡◌, ◌≢◌, ℕ, ◌≤◌, ◌<◌, ◌⊎◌, List, [], length, map, string_bytes, Some, None, IfOk, OnErr, Ok, Err};
-ghost use Rattle.own_io.specs.Outside.{told_after, HasRisen};
-ghost use Rattle.own_tool.specs.Judged.{answer_of, answer_of_ending, line_of, line_of_ending, ending_of, IsShort, TextEndsAs, TextComesTo, FileIsJudged};
-ghost use Rattle.own_tool.specs.Words.{file_to_run};
-ghost use Rattle.own_tool.specs.Headline.{Answers};
-ghost use Rattle.own_tool.specs.Saying.{Said, IsConcluded};
+ghost use Rattle.std.specs.Prelude.{◌≡◌, ◌≢◌, ℕ, ◌≤◌, List, [], length, map, string_bytes, false, IfOk, OnErr, IsUtf8};
+ghost use Rattle.own_io.specs.Outside.{HasRisen};
+ghost use Rattle.own_tool.specs.Judged.{answer_of, answer_of_ending, line_of, line_of_ending, ending_of};
+ghost use Rattle.own_tool.specs.Judged.{IsShort, TextEndsAs, TextComesTo, FileIsJudged, IsConcluded};
+ghost use Rattle.own_tool.specs.Headline.{FileAnswers, IsAnswered};
+ghost use Rattle.own_tool.specs.Commands.{Answers, CommandAnswers, RunsModules, IsNotServed, NamesText};
+ghost use Rattle.own_tool.specs.Commands.{is_file_alone, is_served};
 ghost use Rattle.own_second.specs.SecondForm.{IsSecondForm};
 ghost use Rattle.own_tree.specs.View.{tree_view};
 ghost use Rattle.own_meaning.specs.Findings.{IsSound};
@@ -13,23 +14,21 @@ ghost use Rattle.wasm_form.specs.Within.{IsWithin};
 ghost use Rattle.wasm_form.specs.Steps.{machine_run};
 ghost use Rattle.wasm_run.specs.Runs.{RanAs};
 
+use crate::exec::exec_file;
 use crate::judged::{Ending, Judged};
+use crate::saying::{MEMORY_LINE, USAGE_LINE, bytes_of, say};
 use crate::texts::{not_built_line, read_line, steps_line, too_long_line, trap_line};
-use crate::words::file_to_run;
-use own_io::{Folder, LoadError, Sink, send};
+use own_io::{Folder, LoadError, Sink};
 use own_second::findings::{finding_lines, findings};
 use own_second::lower::lower;
 use own_second::second_form::read_form;
 use own_tree::limits::MOST_TEXT_BYTES;
 use own_tree::tree::Tree;
-use own_tree::{Bytes, Row, Status};
+use own_tree::{Bytes, Command, Row, Status};
+use own_words::{WordsError, read_words};
 use std::alloc::{AllocError, Global};
 use wasm_form::Module;
 use wasm_run::{Machine, Ran};
-
-const USAGE_LINE: &[u8] = b"usage: swiftown COMMAND ARGUMENTS\n";
-
-const MEMORY_LINE: &[u8] = b"out of memory\n";
 
 /// The steps of a run, where the words name no other number.
 const DEFAULT_STEPS: u64 = 9_223_372_036_854_775_807;
@@ -57,13 +56,6 @@ fn answer_of(judged: &Judged) -> Status
         Judged::Found(_) => Status::Refused,
         Judged::Ran(_, ending) => answer_of_ending(*ending),
     }
-}
-
-/// The bytes of a line.
-fn bytes_of(alloc: Global, line: String) -> Result<Bytes, AllocError>
-    ensures { IfOk result (λ bytes. bytes ≡ string_bytes line) }
-{
-    Bytes::from_slice(alloc, line.as_bytes())
 }
 
 /// The line of what a text came to.
@@ -116,7 +108,8 @@ fn ending_of(ran: Ran) -> Ending
 fn run_module<K: Sink>(alloc: Global, code: &Module, out: &mut K) -> Result<Ran, AllocError>
     requires { IsWithin code.now }
     ensures count { K.faults out.old ≤ K.faults out.new }
-    ensures ok { IfOk result (λ ran. RanAs ran (K.written out.old) (K.written out.new) (K.faults out.old) (K.faults out.new) (machine_run code.now [] DEFAULT_STEPS)) }
+    ensures ok { IfOk result (λ ran. RanAs ran (K.written out.old) (K.written out.new)
+        (K.faults out.old) (K.faults out.new) (machine_run code.now [] DEFAULT_STEPS)) }
     ensures err { OnErr result (K.written out.new ≡ K.written out.old) }
 {
     let machine = Machine::start(alloc, code, &[])?;
@@ -132,7 +125,8 @@ fn run_tree<K: Sink>(
 ) -> Result<Ending, AllocError>
     requires { IsSecondForm text.now (tree_view tree.now) × IsSound (tree_view tree.now) }
     ensures count { K.faults out.old ≤ K.faults out.new }
-    ensures ran { TextEndsAs text.now result (K.written out.old) (K.written out.new) (HasRisen (K.faults out.old) (K.faults out.new)) }
+    ensures ran { TextEndsAs text.now result (K.written out.old) (K.written out.new)
+        (HasRisen (K.faults out.old) (K.faults out.new)) }
 {
     let code = lower(alloc, tree)?;
     let ran = run_module(alloc, &code, out)?;
@@ -150,7 +144,8 @@ fn judge_tree<K: Sink>(
     requires { IsSecondForm text (tree_view tree.now) × (length text ≤ 1048576) }
     ensures count { K.faults out.old ≤ K.faults out.new }
     ensures short { IfOk result IsShort }
-    ensures judged { TextComesTo file.now text result (K.written out.old) (K.written out.new) (HasRisen (K.faults out.old) (K.faults out.new)) }
+    ensures judged { TextComesTo file.now text result (K.written out.old) (K.written out.new)
+        (HasRisen (K.faults out.old) (K.faults out.new)) }
 {
     let found = findings(alloc, tree)?;
     if found.findings.is_empty() {
@@ -178,22 +173,12 @@ fn judge_text<K: Sink>(
     requires { length text ≤ 1048576 }
     ensures count { K.faults out.old ≤ K.faults out.new }
     ensures short { IfOk result IsShort }
-    ensures judged { TextComesTo file.now text result (K.written out.old) (K.written out.new) (HasRisen (K.faults out.old) (K.faults out.new)) }
+    ensures judged { TextComesTo file.now text result (K.written out.old) (K.written out.new)
+        (HasRisen (K.faults out.old) (K.faults out.new)) }
 {
     match read_form(alloc, text.as_slice())? {
         Some(tree) => judge_tree(alloc, file, text, &tree, out),
         None => Ok(Judged::Ran(text, Ending::NotBuilt)),
-    }
-}
-
-/// Writes the line of an answer.
-fn say<E: Sink>(err: &mut E, line: &[u8], answer: Status) -> Status
-    ensures count { E.faults err.old ≤ E.faults err.new }
-    ensures said { Said answer line.now result (E.written err.old) (E.written err.new) (HasRisen (E.faults err.old) (E.faults err.new)) }
-{
-    match send(err, line) {
-        Ok(()) => answer,
-        Err(_) => Status::WriteFault,
     }
 }
 
@@ -208,8 +193,9 @@ fn judge<F: Folder, K: Sink>(
     ensures count { K.faults out.old ≤ K.faults out.new }
     ensures names { (name : List ℕ) → F.held folder.new name ≡ F.held folder.old name }
     ensures short { IfOk result IsShort }
-    ensures judged { FileIsJudged (record { tells = F.tells folder.old; held = F.held folder.old }) (HasRisen (F.faults folder.old) (F.faults folder.new))
-        file.now result (K.written out.old) (K.written out.new) (HasRisen (K.faults out.old) (K.faults out.new)) }
+    ensures judged { FileIsJudged (record { tells = F.tells folder.old; held = F.held folder.old })
+        (HasRisen (F.faults folder.old) (F.faults folder.new)) file.now result
+        (K.written out.old) (K.written out.new) (HasRisen (K.faults out.old) (K.faults out.new)) }
 {
     match folder.load(file, MOST_TEXT_BYTES) {
         Ok(text) => judge_text(alloc, file, text, out),
@@ -223,7 +209,8 @@ fn judge<F: Folder, K: Sink>(
 fn conclude<E: Sink>(alloc: Global, file: &str, judged: &Judged, err: &mut E) -> Status
     requires { IsShort judged.now }
     ensures count { E.faults err.old ≤ E.faults err.new }
-    ensures said { IsConcluded file.now judged.now result (E.written err.old) (E.written err.new) (HasRisen (E.faults err.old) (E.faults err.new)) }
+    ensures said { IsConcluded file.now judged.now result (E.written err.old) (E.written err.new)
+        (HasRisen (E.faults err.old) (E.faults err.new)) }
 {
     match line_of(alloc, file, judged) {
         Ok(line) => say(err, line.as_slice(), answer_of(judged)),
@@ -243,10 +230,10 @@ fn run_file<F: Folder, K: Sink, E: Sink>(
     ensures out_count { K.faults out.old ≤ K.faults out.new }
     ensures err_count { E.faults err.old ≤ E.faults err.new }
     ensures names { (name : List ℕ) → F.held folder.new name ≡ F.held folder.old name }
-    ensures answer { (words : List (List ℕ)) → file_to_run words ≡ Some file.now → (gained : List ℕ) × (said : List ℕ)
-        × (K.written out.new ≡ told_after (K.written out.old) gained) × (E.written err.new ≡ told_after (E.written err.old) said)
-        × Answers (record { tells = F.tells folder.old; held = F.held folder.old }) (HasRisen (F.faults folder.old) (F.faults folder.new))
-        (HasRisen (K.faults out.old) (K.faults out.new)) (HasRisen (E.faults err.old) (E.faults err.new)) words result gained said }
+    ensures answer { IsAnswered (FileAnswers (record { tells = F.tells folder.old; held = F.held folder.old })
+        (HasRisen (F.faults folder.old) (F.faults folder.new)) file.now)
+        (HasRisen (K.faults out.old) (K.faults out.new)) (HasRisen (E.faults err.old) (E.faults err.new))
+        (K.written out.old) (K.written out.new) (E.written err.old) (E.written err.new) result }
 {
     match judge(alloc, file, folder, out) {
         Ok(judged) => conclude(alloc, file, &judged, err),
@@ -254,11 +241,77 @@ fn run_file<F: Folder, K: Sink, E: Sink>(
     }
 }
 
-/// Does what the words of the command line say: `run FILE` runs the text that the folder holds under FILE.
+/// Whether the words of `run` name a file and nothing else, which is what is served so far.
+fn is_file_alone(out: &Option<Bytes>, steps: u64, trace: bool, input: &[i64]) -> bool
+    ensures { result ≡ is_file_alone out.now steps trace input.now }
+{
+    out.is_none() && steps == DEFAULT_STEPS && !trace && input.is_empty()
+}
+
+/// The name of a file, as text.
+fn name_of(file: &Bytes) -> &str
+    requires { IsUtf8 file.now }
+    ensures { result.now ≡ file.now }
+{
+    str::from_utf8(file.as_slice()).unwrap()
+}
+
+/// Does what a command says.
+fn obey<F: Folder, K: Sink, E: Sink>(
+    alloc: Global,
+    command: &Command,
+    folder: &mut F,
+    out: &mut K,
+    err: &mut E,
+) -> Status
+    requires { NamesText command.now }
+    ensures folder_count { F.faults folder.old ≤ F.faults folder.new }
+    ensures out_count { K.faults out.old ≤ K.faults out.new }
+    ensures err_count { E.faults err.old ≤ E.faults err.new }
+    ensures names { (name : List ℕ) → F.held folder.new name ≡ F.held folder.old name }
+    ensures folder_alone { is_served command.now ≡ false → folder.new ≡ folder.old }
+    ensures out_alone { is_served command.now ≡ false → out.new ≡ out.old }
+    ensures answer { IsAnswered (CommandAnswers (record { tells = F.tells folder.old; held = F.held folder.old })
+        (HasRisen (F.faults folder.old) (F.faults folder.new)) command.now)
+        (HasRisen (K.faults out.old) (K.faults out.new)) (HasRisen (E.faults err.old) (E.faults err.new))
+        (K.written out.old) (K.written out.new) (E.written err.old) (E.written err.new) result }
+{
+    match command {
+        Command::Run {
+            file,
+            out: saved,
+            steps,
+            trace,
+            input,
+        } => {
+            if is_file_alone(saved, *steps, *trace, input.as_slice()) {
+                run_file(alloc, name_of(file), folder, out, err)
+            } else {
+                say(err, USAGE_LINE, Status::Usage)
+            }
+        }
+        Command::Exec { file, steps, input } => exec_file(
+            alloc,
+            name_of(file),
+            *steps,
+            input.as_slice(),
+            folder,
+            out,
+            err,
+        ),
+        Command::Check(_) => say(err, USAGE_LINE, Status::Usage),
+        Command::Build { .. } => say(err, USAGE_LINE, Status::Usage),
+        Command::Selftest { .. } => say(err, USAGE_LINE, Status::Usage),
+    }
+}
+
+/// Does what the words of the command line say.
 ///
-/// The output of the run goes to `out`, and what is said of the call to `err`. A text is run where it has at
-/// most 1,048,576 bytes and is in the second form and breaks no rule of
-/// ownership; each other one is refused, by `not built yet` or by the lines of its findings.
+/// `run FILE` runs the text that the folder holds under FILE: it is run where it has at most 1,048,576 bytes, is in
+/// the second form and breaks no rule of ownership; each other one is refused, by `not built yet` or by the lines of
+/// its findings. `exec FILE [--steps N] [INT..]` makes at most N steps of the module that the folder holds under FILE,
+/// with these numbers as its input. Output goes to `out`, and what is said of the call to `err`. Other commands are not
+/// served yet, and are answered as words that are none.
 pub fn swiftown<F: Folder, K: Sink, E: Sink>(
     alloc: Global,
     words: &[String],
@@ -267,22 +320,28 @@ pub fn swiftown<F: Folder, K: Sink, E: Sink>(
     err: &mut E,
 ) -> Status
     // What is answered, and what the two sinks gained.
-    ensures answer { (gained : List ℕ) × (said : List ℕ)
-        × (K.written out.new ≡ told_after (K.written out.old) gained) × (E.written err.new ≡ told_after (E.written err.old) said)
-        × Answers (record { tells = F.tells folder.old; held = F.held folder.old }) (HasRisen (F.faults folder.old) (F.faults folder.new))
-        (HasRisen (K.faults out.old) (K.faults out.new)) (HasRisen (E.faults err.old) (E.faults err.new)) (map string_bytes words.now) result gained said }
+    ensures answer { IsAnswered (Answers (record { tells = F.tells folder.old; held = F.held folder.old })
+        (HasRisen (F.faults folder.old) (F.faults folder.new)) (map string_bytes words.now))
+        (HasRisen (K.faults out.old) (K.faults out.new)) (HasRisen (E.faults err.old) (E.faults err.new))
+        (K.written out.old) (K.written out.new) (E.written err.old) (E.written err.new) result }
     // Every name of the folder is as before.
     ensures names { (name : List ℕ) → F.held folder.new name ≡ F.held folder.old name }
-    // Words that are no command leave the folder and the output alone.
-    ensures folder_alone { file_to_run (map string_bytes words.now) ≡ None → folder.new ≡ folder.old }
-    ensures out_alone { file_to_run (map string_bytes words.now) ≡ None → out.new ≡ out.old }
+    // Where nothing outside failed, `exec` of a file that holds a module runs it, unless memory is refused.
+    ensures runs_modules { (HasRisen (F.faults folder.old) (F.faults folder.new) → ⊥)
+        → (HasRisen (K.faults out.old) (K.faults out.new) → ⊥) → (HasRisen (E.faults err.old) (E.faults err.new) → ⊥)
+        → RunsModules (record { tells = F.tells folder.old; held = F.held folder.old })
+        (map string_bytes words.now) result }
+    // Words that are no command that is served leave the folder and the output alone.
+    ensures folder_alone { IsNotServed (map string_bytes words.now) → folder.new ≡ folder.old }
+    ensures out_alone { IsNotServed (map string_bytes words.now) → out.new ≡ out.old }
 
     ensures folder_count { F.faults folder.old ≤ F.faults folder.new }
     ensures out_count { K.faults out.old ≤ K.faults out.new }
     ensures err_count { E.faults err.old ≤ E.faults err.new }
 {
-    match file_to_run(words) {
-        Some(file) => run_file(alloc, file, folder, out, err),
-        None => say(err, USAGE_LINE, Status::Usage),
+    match read_words(alloc, words) {
+        Ok(command) => obey(alloc, &command, folder, out, err),
+        Err(WordsError::Usage) => say(err, USAGE_LINE, Status::Usage),
+        Err(WordsError::Memory) => say(err, MEMORY_LINE, Status::Memory),
     }
 }

@@ -1,0 +1,17 @@
+use Rattle.own_io.specs.Outside.{HasRisen}
+use Rattle.own_tool.proofs.Executing.{exec_concluded, without_memory}
+use Rattle.own_tool.proofs.exec.exec_file.Goals as goal
+
+pub returns-in-Ok-clause-answer : goal.returns-in-Ok-clause-answer
+returns-in-Ok-clause-answer g c =
+    exec_concluded (record { tells = g.F.Folder.tells c.args.folder.now; held = g.F.Folder.held c.args.folder.now }) (HasRisen (g.F.Folder.faults c.args.folder.now) (g.F.Folder.faults c.execute.new.folder)) c.args.file.now c.args.steps c.args.input.now
+    (g.K.Sink.faults c.args.out.now) (g.K.Sink.faults c.execute.new.out) (HasRisen (g.E.Sink.faults c.args.err.now) (g.E.Sink.faults c.tell.new.err))
+    (g.K.Sink.written c.args.out.now) (g.K.Sink.written c.execute.new.out) (g.E.Sink.written c.args.err.now) (g.E.Sink.written c.tell.new.err) c.tell.result (g.met.K.Sink.nothing c.args.out.now)
+    c.in-Ok.executed c.in-Ok.ensures.came c.tell.ensures.said
+
+pub returns-in-Err-clause-answer : goal.returns-in-Err-clause-answer
+returns-in-Err-clause-answer g c =
+    without_memory (record { tells = g.F.Folder.tells c.args.folder.now; held = g.F.Folder.held c.args.folder.now }) (HasRisen (g.F.Folder.faults c.args.folder.now) (g.F.Folder.faults c.execute.new.folder)) c.args.file.now c.args.steps c.args.input.now
+    (g.K.Sink.faults c.args.out.now) (g.K.Sink.faults c.execute.new.out) (HasRisen (g.E.Sink.faults c.args.err.now) (g.E.Sink.faults c.say.new.err))
+    (g.K.Sink.written c.args.out.now) (g.K.Sink.written c.execute.new.out) (g.E.Sink.written c.args.err.now) (g.E.Sink.written c.say.new.err) c.say.result (g.met.K.Sink.nothing c.args.out.now)
+    c.in-Err.ensures.came c.say.ensures.said

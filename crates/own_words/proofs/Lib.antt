@@ -1,0 +1,14 @@
+pub mod Reading
+pub mod Lines
+pub mod Rows
+pub mod Clap
+pub mod Turns
+pub mod Walks
+pub mod Ends
+pub mod Unique
+pub mod Top
+pub mod Telling
+pub mod Holding
+pub mod Whole
+pub mod Commands
+pub mod Numbers

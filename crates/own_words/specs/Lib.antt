@@ -1,0 +1,5 @@
+pub mod Words
+pub mod Told
+pub mod Laws
+pub mod Held
+pub mod Seen
