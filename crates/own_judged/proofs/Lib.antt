@@ -1,0 +1,4 @@
+mod Proved
+pub mod Spelling
+pub mod Worked
+pub mod Refused

@@ -1,0 +1,4 @@
+pub mod Matching
+pub mod Known
+pub mod Surroundings
+pub mod Laws
