@@ -1,0 +1,4 @@
+pub mod Words
+pub mod Flow
+pub mod Facts
+pub mod Rounds

@@ -1,0 +1,4 @@
+pub mod Prefixes
+pub mod Declared
+pub mod Sorted
+pub mod Structs

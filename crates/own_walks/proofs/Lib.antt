@@ -1,0 +1,12 @@
+pub mod Steps
+pub mod Complete
+pub mod Sound
+pub mod Rounds
+pub mod Law
+pub mod Laid
+pub mod Edges
+pub mod Breaking
+pub mod Carried
+pub mod FallingOff
+pub mod Worked
+pub mod Making
