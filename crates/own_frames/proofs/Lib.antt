@@ -1,0 +1,10 @@
+pub mod StoreFacts
+pub mod Writing
+pub mod Frames
+pub mod Whole
+pub mod Example
+pub mod Locations
+pub mod Leaves
+pub mod Chain
+pub mod Literals
+pub mod Proved
