@@ -1,0 +1,5 @@
+pub mod CoreSource
+pub mod CoreView
+pub mod CoreRun
+pub mod Sizes
+pub mod Laws

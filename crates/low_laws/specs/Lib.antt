@@ -1,0 +1,4 @@
+pub mod Lower
+pub mod Shows
+pub mod Follows
+pub mod Laws
