@@ -213,7 +213,7 @@ fn put_declaration(out: &mut String, declaration: &Declaration) -> Shown {
 }
 
 /// The declarations, where the last `main` begins, and the number of tokens.
-pub fn put_tree(out: &mut String, tree: &Tree) -> Shown {
+pub(super) fn put_tree(out: &mut String, tree: &Tree) -> Shown {
     for declaration in tree.declarations.as_slice() {
         put_declaration(out, declaration)?;
         out.push_str("; ")?;
