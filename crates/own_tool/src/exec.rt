@@ -19,7 +19,7 @@ use wasm_read::{ReadError, read_module};
 use wasm_run::{Machine, Ran};
 
 /// The most bytes of a module that is read.
-pub const MOST_MODULE_BYTES: usize = 268_435_456;
+pub(crate) const MOST_MODULE_BYTES: usize = 268_435_456;
 
 /// What a module came to, before its line is said.
 #[derive(Clone, Copy, Debug, PartialEq, Eq)]
@@ -81,8 +81,8 @@ fn line_of(alloc: Global, file: &str, executed: Executed) -> Result<Bytes, Alloc
     }
 }
 
-/// Runs a module.
-fn run_module<K: Sink>(
+/// Runs a module: at most so many steps, on this input.
+pub(crate) fn run_module<K: Sink>(
     alloc: Global,
     code: &Module,
     steps: u64,
@@ -117,7 +117,7 @@ fn execute_bytes<K: Sink>(
     input: &[i64],
     out: &mut K,
 ) -> Result<Executed, AllocError>
-    requires { length bytes.now ≤ 268435456 }
+    requires { length bytes.now ≤ MOST_MODULE_BYTES }
     ensures count { K.faults out.old ≤ K.faults out.new }
     ensures came { spec.BytesComeTo bytes.now steps input.now result
         (K.written out.old) (K.written out.new) (K.faults out.old) (K.faults out.new) }

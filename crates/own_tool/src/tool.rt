@@ -1,6 +1,6 @@
 //! The top call.
 
-ghost use Rattle.std.specs.Prelude.{◌≡◌, ◌≢◌, ℕ, ◌≤◌, List, [], length, map, string_bytes, false, IfOk, OnErr, IsUtf8};
+ghost use Rattle.std.specs.Prelude.{◌≡◌, ◌≢◌, ℕ, ◌≤◌, List, length, map, string_bytes, false, IfOk, OnErr, IsUtf8};
 ghost use Rattle.own_io.specs.Outside.{HasRisen};
 ghost use Rattle.own_tool.specs.Judged.{answer_of, answer_of_ending, line_of, line_of_ending, ending_of};
 ghost use Rattle.own_tool.specs.Judged.{IsShort, TextEndsAs, TextComesTo, FileIsJudged, IsConcluded};
@@ -10,11 +10,8 @@ ghost use Rattle.own_tool.specs.Commands.{is_file_alone, is_served};
 ghost use Rattle.own_second.specs.SecondForm.{IsSecondForm};
 ghost use Rattle.own_tree.specs.View.{tree_view};
 ghost use Rattle.own_meaning.specs.Findings.{IsSound};
-ghost use Rattle.wasm_form.specs.Within.{IsWithin};
-ghost use Rattle.wasm_form.specs.Steps.{machine_run};
-ghost use Rattle.wasm_run.specs.Runs.{RanAs};
 
-use crate::exec::exec_file;
+use crate::exec::{exec_file, run_module};
 use crate::judged::{Ending, Judged};
 use crate::saying::{MEMORY_LINE, USAGE_LINE, bytes_of, say};
 use crate::texts::{not_built_line, read_line, steps_line, too_long_line, trap_line};
@@ -27,8 +24,7 @@ use own_tree::tree::Tree;
 use own_tree::{Bytes, Command, Row, Status};
 use own_words::{WordsError, read_words};
 use std::alloc::{AllocError, Global};
-use wasm_form::Module;
-use wasm_run::{Machine, Ran};
+use wasm_run::Ran;
 
 /// The steps of a run, where the words name no other number.
 const DEFAULT_STEPS: u64 = 9_223_372_036_854_775_807;
@@ -104,18 +100,6 @@ fn ending_of(ran: Ran) -> Ending
     }
 }
 
-/// Runs a module on an empty input, with the steps that a run has by default.
-fn run_module<K: Sink>(alloc: Global, code: &Module, out: &mut K) -> Result<Ran, AllocError>
-    requires { IsWithin code.now }
-    ensures count { K.faults out.old ≤ K.faults out.new }
-    ensures ok { IfOk result (λ ran. RanAs ran (K.written out.old) (K.written out.new)
-        (K.faults out.old) (K.faults out.new) (machine_run code.now [] DEFAULT_STEPS)) }
-    ensures err { OnErr result (K.written out.new ≡ K.written out.old) }
-{
-    let machine = Machine::start(alloc, code, &[])?;
-    Ok(machine.run(DEFAULT_STEPS, out))
-}
-
 /// Runs the tree of a text that breaks no rule.
 fn run_tree<K: Sink>(
     alloc: Global,
@@ -129,7 +113,7 @@ fn run_tree<K: Sink>(
         (HasRisen (K.faults out.old) (K.faults out.new)) }
 {
     let code = lower(alloc, tree)?;
-    let ran = run_module(alloc, &code, out)?;
+    let ran = run_module(alloc, &code, DEFAULT_STEPS, &[], out)?;
     Ok(ending_of(ran))
 }
 
