@@ -15,7 +15,8 @@ use std::alloc::{AllocError, Global};
 /// changed.
 fn note(seen: &mut Vec<Option<bool>>, mention: Captured)
     ensures each { length seen.new.items ≡ length seen.old.items }
-    ensures noted { (k : ℕ) → k < length seen.old.items → get_or seen.new.items k None ≡ noted k mention (get_or seen.old.items k None) }
+    ensures noted { (k : ℕ) → k < length seen.old.items → get_or seen.new.items k None
+        ≡ noted k mention (get_or seen.old.items k None) }
 {
     let at = mention.binding as usize;
     if at < seen.len() {
@@ -31,7 +32,8 @@ fn noted(
     mentions: &[Captured],
 ) -> Result<Vec<Option<bool>>, AllocError>
     ensures each { IfOk result (λ seen. length seen.items ≡ count) }
-    ensures said { IfOk result (λ seen. (k : ℕ) → k < count → get_or seen.items k None ≡ said k (captured_seen mentions.now)) }
+    ensures said { IfOk result (λ seen. (k : ℕ) → k < count → get_or seen.items k None
+        ≡ said k (captured_seen mentions.now)) }
 {
     let mut seen = vec![in alloc; None; count]?;
     let mut left = mentions.len();

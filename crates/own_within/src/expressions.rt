@@ -52,7 +52,8 @@ fn push_expressions<'t>(
     found: &mut Vec<&'t TypedExpr>,
     exprs: &'t [TypedExpr],
 ) -> Result<(), AllocError>
-    ensures { OnOk result (exps_seen found.new.items ≡ exps_seen found.old.items ++ exps_in_all (exps_of (map expr_view exprs.now))) }
+    ensures { OnOk result (exps_seen found.new.items ≡ exps_seen found.old.items ++ exps_in_all
+        (exps_of (map expr_view exprs.now))) }
 {
     for expr in exprs {
         push_expression(found, expr)?;

@@ -8,8 +8,6 @@ mod mentions;
 mod nodes;
 mod outer;
 mod statements;
-#[cfg(test)]
-mod tests;
 mod within;
 
 pub use captured::Captured;

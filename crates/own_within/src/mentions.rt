@@ -18,7 +18,8 @@ pub(crate) fn push_mention(
     change: bool,
     binding: u32,
 ) -> Result<(), AllocError>
-    ensures { OnOk result (captured_seen mentions.new.items ≡ captured_seen mentions.old.items ++ mention change binding ∷ []) }
+    ensures { OnOk result (captured_seen mentions.new.items
+        ≡ captured_seen mentions.old.items ++ mention change binding ∷ []) }
 {
     mentions.push(Captured { binding, change })?;
     Ok(())
@@ -46,7 +47,8 @@ fn push_passed(
     passing: Passing,
     path: Option<&TypedPath>,
 ) -> Result<(), AllocError>
-    ensures { OnOk result (captured_seen mentions.new.items ≡ captured_seen mentions.old.items ++ passed passing (option_copied path.entry)) }
+    ensures { OnOk result (captured_seen mentions.new.items ≡ captured_seen mentions.old.items ++ passed passing
+        (option_copied path.entry)) }
 {
     match (passing, path) {
         (Passing::Inout, Some(path)) => push_mention(mentions, true, path.place.binding),
@@ -79,7 +81,8 @@ pub(crate) fn push_call(
     passings: &[Passing],
 ) -> Result<(), AllocError>
     ensures { OnOk result (captured_seen mentions.new.items
-        ≡ captured_seen mentions.old.items ++ (called target ++ changed_by_passing (exps_of (map expr_view arguments.now)) passings.now)) }
+        ≡ captured_seen mentions.old.items ++ (called target ++ changed_by_passing
+        (exps_of (map expr_view arguments.now)) passings.now)) }
 {
     push_called(mentions, target)?;
     push_changed(mentions, arguments, passings)
@@ -90,7 +93,8 @@ fn push_statement_mentions(
     mentions: &mut Vec<Captured>,
     statement: &TypedStmt,
 ) -> Result<(), AllocError>
-    ensures { OnOk result (captured_seen mentions.new.items ≡ captured_seen mentions.old.items ++ stm_mentions (stmt_view statement.now)) }
+    ensures { OnOk result (captured_seen mentions.new.items ≡ captured_seen mentions.old.items ++ stm_mentions
+        (stmt_view statement.now)) }
 {
     match statement {
         TypedStmt::Assign(_, path, _) | TypedStmt::Update(_, path, _, _, _) => {
@@ -120,7 +124,8 @@ pub(crate) fn push_statements_mention(
     mentions: &mut Vec<Captured>,
     statements: &[&TypedStmt],
 ) -> Result<(), AllocError>
-    ensures { OnOk result (captured_seen mentions.new.items ≡ captured_seen mentions.old.items ++ stms_mention (stms_seen statements.now)) }
+    ensures { OnOk result (captured_seen mentions.new.items ≡ captured_seen mentions.old.items ++ stms_mention
+        (stms_seen statements.now)) }
 {
     for statement in statements {
         push_statement_mentions(mentions, *statement)?;

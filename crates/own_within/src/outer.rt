@@ -25,7 +25,8 @@ fn is_elsewhere(body: u32, binding: Option<&Binding>) -> bool
 
 /// Adds a mention that is wanted.
 fn push_if(outer: &mut Vec<Captured>, mention: Captured, is_wanted: bool) -> Result<(), AllocError>
-    ensures { OnOk result (captured_seen outer.new.items ≡ captured_seen outer.old.items ++ (if is_wanted then captured_view mention ∷ [] else [])) }
+    ensures { OnOk result (captured_seen outer.new.items
+        ≡ captured_seen outer.old.items ++ (if is_wanted then captured_view mention ∷ [] else [])) }
 {
     if is_wanted {
         outer.push(mention)?;
@@ -40,7 +41,8 @@ fn declared_elsewhere(
     body: u32,
     mentions: &[Captured],
 ) -> Result<Vec<Captured>, AllocError>
-    ensures { IfOk result (λ outer. captured_seen outer.items ≡ declared_elsewhere bindings.now body (captured_seen mentions.now)) }
+    ensures { IfOk result (λ outer. captured_seen outer.items
+        ≡ declared_elsewhere bindings.now body (captured_seen mentions.now)) }
 {
     let mut outer = Vec::new(alloc);
     for mention in mentions {
@@ -52,7 +54,8 @@ fn declared_elsewhere(
 
 /// Adds all of these.
 fn push_all(mentions: &mut Vec<Captured>, more: &[Captured]) -> Result<(), AllocError>
-    ensures { OnOk result (captured_seen mentions.new.items ≡ captured_seen mentions.old.items ++ captured_seen more.now) }
+    ensures { OnOk result (captured_seen mentions.new.items
+        ≡ captured_seen mentions.old.items ++ captured_seen more.now) }
 {
     mentions.extend_from_slice(more)?;
     Ok(())
@@ -68,7 +71,8 @@ fn push_expression_mentions(
     expr: &TypedExpr,
 ) -> Result<(), AllocError>
     ensures { OnOk result (captured_seen mentions.new.items
-        ≡ captured_seen mentions.old.items ++ exp_mentions (outer_mentions (program_view typed.now) depth) (expr_view expr.now)) }
+        ≡ captured_seen mentions.old.items ++ exp_mentions (outer_mentions (program_view typed.now) depth)
+        (expr_view expr.now)) }
 {
     match expr {
         TypedExpr::Path(path) | TypedExpr::Consume(_, path) => {
@@ -105,7 +109,8 @@ fn push_expressions_mention(
     exprs: &[&TypedExpr],
 ) -> Result<(), AllocError>
     ensures { OnOk result (captured_seen mentions.new.items
-        ≡ captured_seen mentions.old.items ++ exps_mention (outer_mentions (program_view typed.now) depth) (exps_seen exprs.now)) }
+        ≡ captured_seen mentions.old.items ++ exps_mention (outer_mentions (program_view typed.now) depth)
+        (exps_seen exprs.now)) }
 {
     for expr in exprs {
         push_expression_mentions(alloc, typed, depth, mentions, *expr)?;
@@ -137,7 +142,8 @@ fn block_mentions(
     depth: usize,
     block: &TypedBlock,
 ) -> Result<Vec<Captured>, AllocError>
-    ensures { IfOk result (λ mentions. captured_seen mentions.items ≡ block_mentions (outer_mentions (program_view typed.now) depth) (block_view block.now)) }
+    ensures { IfOk result (λ mentions. captured_seen mentions.items
+        ≡ block_mentions (outer_mentions (program_view typed.now) depth) (block_view block.now)) }
 {
     let statements = statements_in(alloc, block)?;
     let expressions = expressions_of(alloc, statements.as_slice())?;

@@ -51,7 +51,8 @@ fn push_statements<'t>(
     found: &mut Vec<&'t TypedStmt>,
     statements: &'t [TypedStmt],
 ) -> Result<(), AllocError>
-    ensures { OnOk result (stms_seen found.new.items ≡ stms_seen found.old.items ++ stms_in_list (stms_of (map stmt_view statements.now))) }
+    ensures { OnOk result (stms_seen found.new.items ≡ stms_seen found.old.items ++ stms_in_list
+        (stms_of (map stmt_view statements.now))) }
 {
     for statement in statements {
         push_statement(found, statement)?;
@@ -65,7 +66,8 @@ pub(crate) fn push_block<'t>(
     found: &mut Vec<&'t TypedStmt>,
     block: &'t TypedBlock,
 ) -> Result<(), AllocError>
-    ensures { OnOk result (stms_seen found.new.items ≡ stms_seen found.old.items ++ stms_in_block (block_view block.now)) }
+    ensures { OnOk result (stms_seen found.new.items ≡ stms_seen found.old.items ++ stms_in_block
+        (block_view block.now)) }
 {
     push_statements(found, block.statements.as_slice())
 }
@@ -76,7 +78,8 @@ fn push_clauses<'t>(
     found: &mut Vec<&'t TypedStmt>,
     clauses: &'t [TypedClause],
 ) -> Result<(), AllocError>
-    ensures { OnOk result (stms_seen found.new.items ≡ stms_seen found.old.items ++ stms_in_clauses (clauses_of (map clause_view clauses.now))) }
+    ensures { OnOk result (stms_seen found.new.items ≡ stms_seen found.old.items ++ stms_in_clauses
+        (clauses_of (map clause_view clauses.now))) }
 {
     for clause in clauses {
         push_statements(found, clause.statements.as_slice())?;

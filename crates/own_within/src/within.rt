@@ -26,7 +26,8 @@ fn push_heads<'t>(
     found: &mut Vec<&'t TypedExpr>,
     clauses: &'t [TypedClause],
 ) -> Result<(), AllocError>
-    ensures { OnOk result (exps_seen found.new.items ≡ exps_seen found.old.items ++ exps_of_heads (clauses_of (map clause_view clauses.now))) }
+    ensures { OnOk result (exps_seen found.new.items ≡ exps_seen found.old.items ++ exps_of_heads
+        (clauses_of (map clause_view clauses.now))) }
 {
     for clause in clauses {
         push_head(found, &clause.head)?;
@@ -39,7 +40,8 @@ fn push_expressions_of<'t>(
     found: &mut Vec<&'t TypedExpr>,
     statement: &'t TypedStmt,
 ) -> Result<(), AllocError>
-    ensures { OnOk result (exps_seen found.new.items ≡ exps_seen found.old.items ++ exps_of_stm (stmt_view statement.now)) }
+    ensures { OnOk result (exps_seen found.new.items ≡ exps_seen found.old.items ++ exps_of_stm
+        (stmt_view statement.now)) }
 {
     match statement {
         TypedStmt::Let(_, _, value)

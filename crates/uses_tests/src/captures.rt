@@ -1,6 +1,6 @@
-use super::*;
 use own_tree::typed::{At, Body, BodyKind, Target, TypedBlock, TypedExpr, TypedPath, TypedStmt};
 use own_tree::{Binding, Bytes, Mode, Passing, Place, Row, Span, Ty, Typed};
+use own_within::{Captured, captures};
 use sqlite_items::Items;
 use std::alloc::{AllocError, Global};
 use std::test::*;
