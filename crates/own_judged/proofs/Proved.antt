@@ -3,8 +3,8 @@ use Rattle.std.specs.Prelude.{◌≡◌, ◌⊎◌, Result, Ok, Err}
 use Rattle.std.proofs.Common.{refl, sym, ap, ◌∙◌, inl, inr}
 use Rattle.own_tree.specs.Source.{File}
 use Rattle.own_tree.specs.TypedSource.{Program}
-use Rattle.own_rules.specs.Made.{nothing_made, Fault, Found}
-use Rattle.own_rules.proofs.Judging.{says_one, fails_one, says_or_fails}
+use Rattle.own_judging.specs.Made.{nothing_made, Fault, Found}
+use Rattle.own_judging.proofs.Judging.{says_one, fails_one, says_or_fails}
 use Rattle.own_judged.specs.Text.{text_of}
 use Rattle.own_judged.specs.Typing.{all_bodies, program_of, Typing, IsFalse, as_program, typed}
 use Rattle.own_judged.specs.Laws.{TypingIsOne, FaultIsOne, TypedOrRefused, NeverBoth, FindsTyping}

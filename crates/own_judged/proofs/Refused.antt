@@ -15,8 +15,8 @@ use Rattle.own_tree.specs.TypedSource as typed
 use Rattle.own_tree.specs.TypedSource.{TPat}
 use Rattle.own_tree.specs.TypedSource.{Program}
 use Rattle.own_shapes.specs.Types.{types_of, types_declared}
-use Rattle.own_rules.specs.Coverage.{first_missing}
-use Rattle.own_rules.specs.Made.{broken, uncovered}
+use Rattle.own_judging.specs.Coverage.{first_missing}
+use Rattle.own_judging.specs.Made.{broken, uncovered}
 use Rattle.own_judged.specs.Codes.{T10, T11, T12, T13, T14, T15, T16, T18, T19, T21, T22, T23, T24, T25, T26, T27, T28, T29, T31, T32}
 use Rattle.own_judged.specs.Refusals.{form_text}
 use Rattle.own_judged.specs.Typing.{typed as typed_text}

@@ -17,7 +17,7 @@ use Rattle.own_tree.specs.Source.{Stm, File, Clauses, Pat}
 use Rattle.own_tree.specs.TypedSource as typed
 use Rattle.own_tree.specs.TypedSource.{TStm, TBody, Program}
 use Rattle.own_shapes.specs.Types.{types_of, types_declared}
-use Rattle.own_rules.specs.Coverage.{first_missing}
+use Rattle.own_judging.specs.Coverage.{first_missing}
 use Rattle.own_judged.specs.Typing.{typed as typed_text}
 use Rattle.own_judged.proofs.Spelling.{span, span_to, name, path, number, call, stms, let_in, function, main, int_result, parameter, function_parameter, file, at, node, typed_path, typed_stms, binding}
 

@@ -15,7 +15,7 @@ use Rattle.own_tree.specs.declared.typed.Target.TheVariants as target
 use Rattle.own_tree.specs.TypedSource as typed
 use Rattle.own_tree.specs.TypedSource.{TExp, TExps}
 use Rattle.own_calls.specs.Arguments.{arguments_agree, passing_of, is_function}
-use Rattle.own_rules.specs.Judged.{Judged}
+use Rattle.own_judging.specs.Judged.{Judged}
 use Rattle.own_judged.specs.Codes.{T13, T24, T29, T32}
 use Rattle.own_judged.specs.Conditions.{true_that}
 use Rattle.own_judged.specs.Rules.{yields, ◌>>=◌, ◌>>◌, holding, refused, unless}

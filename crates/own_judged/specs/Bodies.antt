@@ -20,7 +20,7 @@ use Rattle.own_shapes.specs.Types.{is_copyable, tracked}
 use Rattle.own_survey.specs.Parts.{word_of}
 use Rattle.own_paths.specs.Ops.{closing}
 use Rattle.own_paths.specs.Within.{stms_in_block}
-use Rattle.own_rules.specs.Judged.{Judged}
+use Rattle.own_judging.specs.Judged.{Judged}
 use Rattle.own_judged.specs.Closures.{binding_of, no_block, a_block}
 use Rattle.own_judged.specs.Names.{Local, Self, Scope, local_of}
 use Rattle.own_judged.specs.Rules.{yields, ◌>>=◌, ◌>>◌, declared, embodied}

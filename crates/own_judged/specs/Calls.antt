@@ -19,7 +19,7 @@ use Rattle.own_tree.specs.TypedSource.{TExp, TExps}
 use Rattle.own_shapes.specs.declared.info.FieldInfo.{FieldInfo}
 use Rattle.own_paths.specs.Within.{node_of, path_of}
 use Rattle.own_calls.specs.Arguments.{arguments_agree}
-use Rattle.own_rules.specs.Judged.{Judged}
+use Rattle.own_judging.specs.Judged.{Judged}
 use Rattle.own_judged.specs.Arguments.{Arguments, Argument, info, passings, calling, printing}
 use Rattle.own_judged.specs.Codes.{T10, T11, T13, T24, T27}
 use Rattle.own_judged.specs.Conditions.{true_that}

@@ -13,7 +13,7 @@ use Rattle.own_tree.specs.TypedSource as typed
 use Rattle.own_tree.specs.TypedSource.{TExp, TStms, TBlk, TBody}
 use Rattle.own_shapes.specs.Spans.{opening}
 use Rattle.own_paths.specs.Ops.{closing}
-use Rattle.own_rules.specs.Judged.{Judged}
+use Rattle.own_judging.specs.Judged.{Judged}
 use Rattle.own_judged.specs.Codes.{T13}
 use Rattle.own_judged.specs.Conditions.{equal}
 use Rattle.own_judged.specs.Names.{Local, Scope, local_of, inside_closure}

@@ -2,8 +2,8 @@
 use Rattle.std.specs.Prelude.{◌≡◌, ℕ, ◌≤◌, ◌==◌, nat_le, Bool, true, ◌&&◌, ◌||◌, ◌⊎◌, Option, Some, None}
 use Rattle.own_tree.specs.declared.place.Ty.{Ty}
 use Rattle.own_calls.specs.Arguments.{same_type}
-use Rattle.own_rules.specs.Judged.{Test}
-use Rattle.own_rules.proofs.Conditions.{type_is_same, same_by, equal_passes, equal_passed, at_most_passes, at_most_passed, both_passes, both_passed, either_passes, either_passed}
+use Rattle.own_judging.specs.Judged.{Test}
+use Rattle.own_judging.proofs.Conditions.{type_is_same, same_by, equal_passes, equal_passed, at_most_passes, at_most_passed, both_passes, both_passed, either_passes, either_passed}
 
 abbrev pub true_that : Bool → Test
 true_that b = record { is = b ≡ true; test = b; passes = λ p. p; passed = λ p. p }

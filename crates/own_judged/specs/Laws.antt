@@ -2,7 +2,7 @@
 use Rattle.std.specs.Prelude.{◌≡◌, ◌↔◌, ◌⊎◌, Ok, Err}
 use Rattle.own_tree.specs.Source.{File}
 use Rattle.own_tree.specs.TypedSource.{Program}
-use Rattle.own_rules.specs.Made.{Fault}
+use Rattle.own_judging.specs.Made.{Fault}
 use Rattle.own_judged.specs.Typing.{Typing, IsFalse, typed}
 
 -- A text has one typing at most.

@@ -15,7 +15,7 @@ use Rattle.own_tree.specs.declared.typed.TypedPath.{TypedPath}
 use Rattle.own_tree.specs.TypedSource as typed
 use Rattle.own_tree.specs.TypedSource.{TExp}
 use Rattle.own_shapes.specs.Types.{is_copyable}
-use Rattle.own_rules.specs.Judged.{Judged}
+use Rattle.own_judging.specs.Judged.{Judged}
 use Rattle.own_judged.specs.Arguments.{Arguments, nothing_given, calling}
 use Rattle.own_judged.specs.Codes.{T10, T11, T16, T24, T25, T26, T27}
 use Rattle.own_judged.specs.Conditions.{true_that}

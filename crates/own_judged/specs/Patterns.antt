@@ -12,7 +12,7 @@ use Rattle.own_tree.specs.Source.{LetPat, LetPats, Pat, Pats}
 use Rattle.own_tree.specs.TypedSource as typed
 use Rattle.own_tree.specs.TypedSource.{TPat, TPats, TWhen, TClauses}
 use Rattle.own_shapes.specs.Types.{is_copyable, is_empty}
-use Rattle.own_rules.specs.Judged.{Judged}
+use Rattle.own_judging.specs.Judged.{Judged}
 use Rattle.own_judged.specs.Closures.{binding_of}
 use Rattle.own_judged.specs.Codes.{T11, T14, T21}
 use Rattle.own_judged.specs.Conditions.{true_that, one_type, at_most}

@@ -8,7 +8,7 @@ use Rattle.own_shapes.specs.declared.info.CaseInfo.{CaseInfo}
 use Rattle.own_shapes.specs.Types.{Types, types_of}
 use Rattle.own_calls.specs.declared.error.TypeError.{TypeError}
 use Rattle.own_calls.specs.declared.error.TypeError.TheVariants as type_error
-use Rattle.own_rules.specs.Made.{Made, broken, uncovered, Found}
+use Rattle.own_judging.specs.Made.{Made, broken, uncovered, Found}
 use Rattle.own_judged.specs.Typing.{IsFalse}
 
 -- ---- a missing form: `.name`, `.name(p, p)`, `true`, `false`, a number or `_`

@@ -8,11 +8,11 @@ use Rattle.own_tree.specs.TypedSource.{TPat, TBody}
 use Rattle.own_shapes.specs.Types.{Types}
 use Rattle.own_match.specs.Forms.{IsMissing, IsFirst}
 use Rattle.own_match.specs.Values.{Covers}
-use Rattle.own_rules.specs.Made.{Made, broken, uncovered, Grows}
-use Rattle.own_rules.specs.Judged.{Judged, Test, Then, ThenFails, then_run, Around, around_run, checked, taken, unless_run}
-use Rattle.own_rules.specs.Coverage.{first_missing, covering_run}
-use Rattle.own_rules.proofs.Covering.{covering_found, was_covered, covering_stopped, was_uncovered}
-use Rattle.own_rules.proofs.Judging.{stays, no_err, no_ok, same_stop, ok_of, parts_of, then_found, from_ok, then_stopped, from_err, then_grows, was_checked, was_not, failed_check, taken_found, was_taken, not_taken, taken_stopped, unless_found, was_none, unless_stopped, was_some, grows_to, node_grown, binding_grown, binding_whole, body_whole, around_found, around_so, around_stopped, around_false, around_grows}
+use Rattle.own_judging.specs.Made.{Made, broken, uncovered, Grows}
+use Rattle.own_judging.specs.Judged.{Judged, Test, Then, ThenFails, then_run, Around, around_run, checked, taken, unless_run}
+use Rattle.own_judging.specs.Coverage.{first_missing, covering_run}
+use Rattle.own_judging.proofs.Covering.{covering_found, was_covered, covering_stopped, was_uncovered}
+use Rattle.own_judging.proofs.Judging.{stays, no_err, no_ok, same_stop, ok_of, parts_of, then_found, from_ok, then_stopped, from_err, then_grows, was_checked, was_not, failed_check, taken_found, was_taken, not_taken, taken_stopped, unless_found, was_none, unless_stopped, was_some, grows_to, node_grown, binding_grown, binding_whole, body_whole, around_found, around_so, around_stopped, around_false, around_grows}
 
 -- the conclusion: this is what the part becomes
 abbrev pub yields : {A : Type 0} → A → Judged A

@@ -18,7 +18,7 @@ use Rattle.own_tree.specs.Source.{Exp, Stms}
 use Rattle.own_tree.specs.TypedSource as typed
 use Rattle.own_tree.specs.TypedSource.{TExp, TStm}
 use Rattle.own_shapes.specs.Places.{whole}
-use Rattle.own_rules.specs.Judged.{Judged}
+use Rattle.own_judging.specs.Judged.{Judged}
 use Rattle.own_judged.specs.Closures.{binding_of}
 use Rattle.own_judged.specs.Codes.{T15, T18, T22, T23, T25}
 use Rattle.own_judged.specs.Conditions.{true_that, one_type, both}

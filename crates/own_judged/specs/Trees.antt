@@ -13,7 +13,7 @@ use Rattle.own_shapes.specs.Types.{is_copyable, is_empty}
 use Rattle.own_survey.specs.Parts.{word_of}
 use Rattle.own_paths.specs.Ops.{has_result}
 use Rattle.own_paths.specs.Within.{path_of}
-use Rattle.own_rules.specs.Judged.{Judged}
+use Rattle.own_judging.specs.Judged.{Judged}
 use Rattle.own_judged.specs.Arguments.{Arguments, Argument, a_value, a_closure, nothing_given, and_then, trailing, an_item, and_items}
 use Rattle.own_judged.specs.Calls.{Callee, by_path, by_case, by_member, by_value, an_address, call_of}
 use Rattle.own_judged.specs.Closures.{a_block, closure_literal}

@@ -3,8 +3,8 @@ use Rattle.std.specs.Prelude.{◌≡◌, ℕ, Option, Some, None, Result, Ok, Er
 use Rattle.own_tree.specs.Source.{File}
 use Rattle.own_tree.specs.TypedSource.{Program}
 use Rattle.own_survey.specs.Parts.{MAIN}
-use Rattle.own_rules.specs.Made.{Made, nothing_made, Fault, Found}
-use Rattle.own_rules.specs.Judged.{Judged}
+use Rattle.own_judging.specs.Made.{Made, nothing_made, Fault, Found}
+use Rattle.own_judging.specs.Judged.{Judged}
 use Rattle.own_judged.specs.Bodies.{bodies}
 use Rattle.own_judged.specs.Text.{Text, Callable, text_of}
 

@@ -20,7 +20,7 @@ use Rattle.own_tree.specs.TypedSource as typed
 use Rattle.own_tree.specs.TypedSource.{TExp}
 use Rattle.own_shapes.specs.Spans.{opening}
 use Rattle.own_paths.specs.Within.{node_of}
-use Rattle.own_rules.specs.Judged.{Judged, Test}
+use Rattle.own_judging.specs.Judged.{Judged, Test}
 use Rattle.own_judged.specs.Codes.{T12, T14, T15, T24, T29, T32}
 use Rattle.own_judged.specs.Conditions.{one_type, fits, at_most, both, either}
 use Rattle.own_judged.specs.Rules.{yields, ◌>>=◌, ◌>>◌, holding, unless}

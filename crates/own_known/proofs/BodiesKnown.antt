@@ -13,7 +13,7 @@ use Rattle.own_tree.specs.Source as tree
 use Rattle.own_tree.specs.Source.{Stms, Blk, Fun, Member, Decl, File}
 use Rattle.own_tree.specs.TypedSource.{TStms, TBlk, Program}
 use Rattle.own_survey.specs.Parts.{VOID}
-use Rattle.own_rules.specs.Judged.{Judged}
+use Rattle.own_judging.specs.Judged.{Judged}
 use Rattle.own_judged.specs.Bodies.{Heading, owner_type, self_bound, body_of, body_scope, initializer_heading, deinitializer_heading, method_heading, function_heading, param_info, params_bound, body_inside, a_body, member_bodies, bodies}
 use Rattle.own_judged.specs.Closures.{binding_of, no_block, a_block}
 use Rattle.own_judged.specs.Names.{Local, Self, local_of}

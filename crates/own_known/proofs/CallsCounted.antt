@@ -13,7 +13,7 @@ use Rattle.own_tree.specs.declared.typed.ParamInfo.{ParamInfo}
 use Rattle.own_tree.specs.TypedSource.{TExp, TExps, TStms}
 use Rattle.own_paths.specs.Within.{path_of}
 use Rattle.own_calls.specs.Arguments.{arguments_agree}
-use Rattle.own_rules.specs.Judged.{Judged}
+use Rattle.own_judging.specs.Judged.{Judged}
 use Rattle.own_judged.specs.Arguments.{Arguments, Argument, a_value, a_closure, and_then, trailing, nothing_given, an_item, and_items}
 use Rattle.own_judged.specs.Calls.{Callee, by_path, by_case, by_member, by_value, may_receive, an_address, sent, sent_by_name, own_receiver, sent_to_path, closure_call, built, called, called_path, call_of_path, call_of, last_of, front_of, last_span}
 use Rattle.own_judged.specs.Closures.{no_block, a_block, closure_body, closure_inside, closure_literal}

@@ -14,7 +14,7 @@ use Rattle.own_tree.specs.declared.typed.Target.TheVariants as target
 use Rattle.own_tree.specs.TypedSource.{TExp, TExps, Program}
 use Rattle.own_paths.specs.Within.{path_of}
 use Rattle.own_calls.specs.Arguments.{arguments_agree}
-use Rattle.own_rules.specs.Judged.{Judged}
+use Rattle.own_judging.specs.Judged.{Judged}
 use Rattle.own_judged.specs.Arguments.{form_of, Arguments, Argument, a_value, a_closure, and_then, trailing, nothing_given, an_item, and_items, printing}
 use Rattle.own_judged.specs.Calls.{memberwise, Callee, by_path, by_case, by_member, by_value, may_receive, an_address, sent, sent_by_name, own_receiver, sent_to_path, closure_call, built, called, called_path, call_of_path, call_of, last_of, front_of, last_span}
 use Rattle.own_judged.specs.Bodies.{owner_type}

@@ -10,7 +10,7 @@ use Rattle.own_tree.specs.declared.tree.ClosureName.TheVariants as bound
 use Rattle.own_tree.specs.declared.typed.ParamInfo.{ParamInfo}
 use Rattle.own_tree.specs.declared.typed.Signature.{Signature}
 use Rattle.own_tree.specs.TypedSource.{TStms, TBlk, Program}
-use Rattle.own_rules.specs.Judged.{Judged}
+use Rattle.own_judging.specs.Judged.{Judged}
 use Rattle.own_judged.specs.Closures.{binding_of, no_block, a_block, name_text, name_span, local_named, closure_params, closure_body, closure_inside, closure_literal}
 use Rattle.own_judged.specs.Conditions.{equal}
 use Rattle.own_judged.specs.Names.{Local, Scope, inside_closure}

@@ -6,8 +6,8 @@ use Rattle.own_tree.specs.declared.place.Ty.{Ty}
 use Rattle.own_tree.specs.declared.span.Span.{Span}
 use Rattle.own_tree.specs.TypedSource.{TPat, TBody}
 use Rattle.own_shapes.specs.Types.{Types}
-use Rattle.own_rules.specs.Judged.{Judged, Test}
-use Rattle.own_rules.specs.Made.{Made}
+use Rattle.own_judging.specs.Judged.{Judged, Test}
+use Rattle.own_judging.specs.Made.{Made}
 use Rattle.own_judged.specs.Rules.{yields, ◌>>=◌, holding, the, refused, unless, covering, node, declared, declaring, embodied}
 
 -- from each state to what the rule makes of it there are so many bodies more

@@ -22,7 +22,7 @@ use Rattle.own_tree.specs.Source.{LetPat, LetPats, Pat, Pats}
 use Rattle.own_tree.specs.TypedSource.{TPat, TPats, TExp}
 use Rattle.own_shapes.specs.Types.{is_copyable}
 use Rattle.own_calls.specs.Arguments.{arguments_agree}
-use Rattle.own_rules.specs.Judged.{Judged}
+use Rattle.own_judging.specs.Judged.{Judged}
 use Rattle.own_judged.specs.Arguments.{Arguments, nothing_given, calling}
 use Rattle.own_judged.specs.Bodies.{Heading, self_bound, params_bound}
 use Rattle.own_judged.specs.Closures.{closure_params}

@@ -12,8 +12,8 @@ use Rattle.own_tree.specs.Source.{Blk, Member, Decl}
 use Rattle.own_tree.specs.TypedSource.{Program}
 use Rattle.own_shapes.specs.Types.{is_copyable}
 use Rattle.own_survey.specs.Parts.{stms_parts}
-use Rattle.own_rules.specs.Judged.{Judged}
-use Rattle.own_rules.specs.Made.{Made}
+use Rattle.own_judging.specs.Judged.{Judged}
+use Rattle.own_judging.specs.Made.{Made}
 use Rattle.own_judged.specs.Bodies.{Heading, body_of, body_inside, a_body, param_info, method_self, initializer_heading, deinitializer_heading, method_heading, function_heading, member_bodies, bodies, body_scope}
 use Rattle.own_judged.specs.Closures.{no_block}
 use Rattle.own_judged.specs.Rules.{yields, embodied, ◌>>◌}

@@ -8,7 +8,7 @@ use Rattle.own_tree.specs.declared.tree.RangeOperator.{RangeOperator}
 use Rattle.own_tree.specs.declared.typed.TypedPath.{TypedPath}
 use Rattle.own_tree.specs.TypedSource as typed
 use Rattle.own_tree.specs.TypedSource.{TPat, TExp, TWhen, TStm, TStms, TClauses, TBlk, Program}
-use Rattle.own_rules.specs.Judged.{Judged}
+use Rattle.own_judging.specs.Judged.{Judged}
 use Rattle.own_judged.specs.Conditions.{true_that}
 use Rattle.own_judged.specs.Names.{Local}
 use Rattle.own_judged.specs.Patterns.{How, moved, all_matched}

@@ -20,8 +20,8 @@ use Rattle.own_paths.specs.Within.{path_of}
 use Rattle.own_shapes.specs.declared.info.FieldInfo.{FieldInfo}
 use Rattle.own_shapes.specs.Types.{Shape, shape_in, property_shape, is_copyable}
 use Rattle.own_calls.specs.Arguments.{arguments_agree, agrees, is_trailing, same_label, takes, same_type}
-use Rattle.own_rules.specs.Judged.{Judged}
-use Rattle.own_rules.proofs.Conditions.{type_is_same}
+use Rattle.own_judging.specs.Judged.{Judged}
+use Rattle.own_judging.proofs.Conditions.{type_is_same}
 use Rattle.own_judged.specs.Arguments.{Arguments, Passed, form_of, nothing_given, passings, calling}
 use Rattle.own_judged.specs.Bodies.{owner_type}
 use Rattle.own_judged.specs.Conditions.{true_that}

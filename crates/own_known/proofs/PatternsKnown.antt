@@ -13,7 +13,7 @@ use Rattle.own_tree.specs.Source.{LetPat, LetPats, Pat, Pats}
 use Rattle.own_tree.specs.TypedSource as typed
 use Rattle.own_tree.specs.TypedSource.{TPat, TPats, Program}
 use Rattle.own_shapes.specs.Types.{is_copyable}
-use Rattle.own_rules.specs.Judged.{Judged}
+use Rattle.own_judging.specs.Judged.{Judged}
 use Rattle.own_judged.specs.Closures.{binding_of}
 use Rattle.own_judged.specs.Conditions.{true_that, one_type, at_most}
 use Rattle.own_judged.specs.Names.{Local, Scope, local_of}

@@ -5,7 +5,7 @@ use Rattle.own_tree.specs.Source.{File}
 use Rattle.own_tree.specs.TypedSource.{Program}
 use Rattle.own_shapes.specs.Types.{types_of}
 use Rattle.own_table.specs.Table.{AreWhole}
-use Rattle.own_rules.specs.Made.{Made, nothing_made}
+use Rattle.own_judging.specs.Made.{Made, nothing_made}
 use Rattle.own_judged.specs.Text.{Text, Entry, entries, text_of}
 use Rattle.own_judged.specs.Typing.{all_bodies, program_of}
 use Rattle.own_known.specs.Known.{ProgramKnown}

@@ -18,7 +18,7 @@ use Rattle.own_tree.specs.Source as tree
 use Rattle.own_tree.specs.Source.{Member, Decl}
 use Rattle.own_survey.specs.Parts.{VOID}
 use Rattle.own_calls.specs.Arguments.{same_type}
-use Rattle.own_rules.proofs.Conditions.{same_by}
+use Rattle.own_judging.proofs.Conditions.{same_by}
 use Rattle.own_judged.specs.Signatures.{same_mode, same_params, same_signature, number_from, has_signature, with_signature, mode_of, inner_param, signature_of, result_of, signatures_with, signatures_after, member_signatures, signatures_in}
 
 -- ---- a function type is itself

@@ -12,7 +12,7 @@ use Rattle.own_tree.specs.declared.tree.Name.{Name}
 use Rattle.own_tree.specs.declared.typed.TypedPath.{TypedPath}
 use Rattle.own_tree.specs.Source.{Exp}
 use Rattle.own_tree.specs.TypedSource.{TExp, Program}
-use Rattle.own_rules.specs.Judged.{Judged}
+use Rattle.own_judging.specs.Judged.{Judged}
 use Rattle.own_judged.specs.Closures.{binding_of}
 use Rattle.own_judged.specs.Conditions.{true_that, one_type, both}
 use Rattle.own_judged.specs.Names.{Local, Self, Scope}

@@ -6,8 +6,8 @@ use Rattle.own_tree.specs.declared.place.Ty.{Ty}
 use Rattle.own_tree.specs.declared.span.Span.{Span}
 use Rattle.own_tree.specs.TypedSource.{TPat, TBody, Program}
 use Rattle.own_match.specs.Values.{Covers}
-use Rattle.own_rules.specs.Made.{Made, Grows}
-use Rattle.own_rules.specs.Judged.{Judged, Test}
+use Rattle.own_judging.specs.Made.{Made, Grows}
+use Rattle.own_judging.specs.Judged.{Judged, Test}
 use Rattle.own_judged.specs.Rules.{yields, ◌>>=◌, holding, the, refused, unless, covering, node, declared, declaring, embodied}
 use Rattle.own_judged.specs.Text.{Text}
 use Rattle.own_known.specs.Known.{IsTypeHere, BodyKnown}

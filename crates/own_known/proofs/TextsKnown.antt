@@ -22,7 +22,7 @@ use Rattle.own_shapes.specs.declared.info.TypeInfo.{TypeInfo}
 use Rattle.own_shapes.specs.Types.{Types, Shape, shape_at, property_shape, shapes_of, field_types, is_part, types_of, types_declared, types_resolved, resolved, resolved_types, declared_types, Declared, type_number, named, written_type, declared_fields, declared_cases}
 use Rattle.own_shapes.proofs.Lists.{get_contains}
 use Rattle.own_table.specs.Table.{AreWhole}
-use Rattle.own_rules.specs.Made.{Made}
+use Rattle.own_judging.specs.Made.{Made}
 use Rattle.own_judged.specs.Names.{property_from, case_from, property, case_of_type}
 use Rattle.own_judged.specs.Signatures.{signature_of, param_type, given_result, signatures_in}
 use Rattle.own_judged.specs.Text.{Text, Callable, Method, Entry, for_function, for_method, for_initializer, member_entries, member_bodies, bodies_of, entries, function_in, method_in, text_of}

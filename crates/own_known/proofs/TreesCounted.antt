@@ -20,7 +20,7 @@ use Rattle.own_survey.specs.Limits.{body_place, body_places}
 use Rattle.own_survey.specs.Parts.{Part, a_print, a_scope, local_names, arg_count, word_of, exp_parts, given_parts, args_parts, closure_parts, stm_parts, stms_parts, when_parts, clauses_parts, block_parts, pats_parts, written_part, print_call, print_root}
 use Rattle.own_paths.specs.Ops.{has_result}
 use Rattle.own_paths.specs.Within.{path_of}
-use Rattle.own_rules.specs.Judged.{Judged}
+use Rattle.own_judging.specs.Judged.{Judged}
 use Rattle.own_judged.specs.Arguments.{Arguments, nothing_given, trailing}
 use Rattle.own_judged.specs.Codes.{T18, T28}
 use Rattle.own_judged.specs.Conditions.{true_that, one_type, both as both_tests}

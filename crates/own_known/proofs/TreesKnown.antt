@@ -14,7 +14,7 @@ use Rattle.own_shapes.specs.Types.{is_copyable, is_empty}
 use Rattle.own_survey.specs.Parts.{word_of}
 use Rattle.own_paths.specs.Ops.{has_result}
 use Rattle.own_paths.specs.Within.{path_of}
-use Rattle.own_rules.specs.Judged.{Judged}
+use Rattle.own_judging.specs.Judged.{Judged}
 use Rattle.own_judged.specs.Arguments.{Arguments, nothing_given, trailing}
 use Rattle.own_judged.specs.Codes.{T18, T28}
 use Rattle.own_judged.specs.Conditions.{true_that}

@@ -10,7 +10,7 @@ use Rattle.own_tree.specs.declared.typed.TypedPath.{TypedPath}
 use Rattle.own_tree.specs.TypedSource as typed
 use Rattle.own_tree.specs.TypedSource.{TExp, TExps, Program}
 use Rattle.own_paths.specs.Within.{path_of}
-use Rattle.own_rules.specs.Judged.{Judged}
+use Rattle.own_judging.specs.Judged.{Judged}
 use Rattle.own_judged.specs.Conditions.{fits, one_type, either, at_most}
 use Rattle.own_judged.specs.Values.{type_of, is_of, both_are, valued, as_value, chosen, largest, number_literal, Operation, logical, equality, order, trapping, wrapping, operated, prefixed}
 use Rattle.own_judged.specs.Text.{Text}

@@ -2,7 +2,7 @@
 -- part of the text becomes, and the others are the judgements, each with its number and the place that it is named at.
 use Rattle.std.specs.Prelude.{◌≡◌, ℕ, Bool, true, false, ◌⊎◌, Option, Some, None, Ok, Err}
 use Rattle.own_tree.specs.declared.span.Span.{Span}
-use Rattle.own_rules.specs.Made.{Made, Fault, broken, Grows, Found, made}
+use Rattle.own_judging.specs.Made.{Made, Fault, broken, Grows, Found, made}
 
 -- A rule on a part of the text.
 pub record Judged (A : Type 0) : Type 1 where

@@ -5,7 +5,7 @@ use Rattle.std.proofs.lemmas.Grind.{common_steps}
 use Rattle.own_tree.specs.declared.place.Ty.{Ty}
 use Rattle.own_tree.specs.declared.place.Ty.TheVariants as type
 use Rattle.own_calls.specs.Arguments.{same_type}
-use Rattle.own_rules.specs.Judged.{Test}
+use Rattle.own_judging.specs.Judged.{Test}
 
 -- ---- types
 

@@ -5,8 +5,8 @@ use Rattle.std.proofs.lemmas.List.{append-nil}
 use Rattle.own_tree.specs.declared.place.Binding.{Binding}
 use Rattle.own_tree.specs.declared.span.Span.{Span}
 use Rattle.own_tree.specs.TypedSource.{TBody}
-use Rattle.own_rules.specs.Made.{Made, Fault, broken, Grows, Found, made, stop}
-use Rattle.own_rules.specs.Judged.{Judged, Test, after, Then, ThenFails, then_run, Around, around_run, checked, taken, unless_run}
+use Rattle.own_judging.specs.Made.{Made, Fault, broken, Grows, Found, made, stop}
+use Rattle.own_judging.specs.Judged.{Judged, Test, after, Then, ThenFails, then_run, Around, around_run, checked, taken, unless_run}
 
 -- ---- what was made stays
 

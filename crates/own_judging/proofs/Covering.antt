@@ -11,9 +11,9 @@ use Rattle.own_match.specs.Values.{Covers}
 use Rattle.own_match.proofs.Exact.{Exact, columns_exact}
 use Rattle.own_match.proofs.Final.{alive, whole, all_covered, missing, first}
 use Rattle.own_match.proofs.Ordered.{first_missing_is_one}
-use Rattle.own_rules.specs.Made.{Made, Fault, uncovered, stop, made}
-use Rattle.own_rules.specs.Coverage.{only, first_missing, covering_run}
-use Rattle.own_rules.proofs.Judging.{no_err, no_ok, same_stop, ok_of, parts_of}
+use Rattle.own_judging.specs.Made.{Made, Fault, uncovered, stop, made}
+use Rattle.own_judging.specs.Coverage.{only, first_missing, covering_run}
+use Rattle.own_judging.proofs.Judging.{no_err, no_ok, same_stop, ok_of, parts_of}
 
 module _ (ps : List TPat) (s : Shape) where
   abbrev found : Option TPats

@@ -5,7 +5,7 @@ use Rattle.own_tree.specs.declared.span.Span.{Span}
 use Rattle.own_tree.specs.TypedSource.{TPat, TPats, no_pats, pat}
 use Rattle.own_shapes.specs.Types.{Shape}
 use Rattle.own_match.specs.Search.{gap, gap_end}
-use Rattle.own_rules.specs.Made.{Made, uncovered, Found, made, stop}
+use Rattle.own_judging.specs.Made.{Made, uncovered, Found, made, stop}
 
 -- the form at the one place there is
 abbrev pub only : Option TPats → Option TPat
