@@ -13,7 +13,7 @@ mod TreesKnown
 mod BodiesKnown
 mod SignaturesKnown
 mod TextsKnown
-mod Proved
+pub mod Proved
 mod Counting
 mod NoBodies
 mod CallsCounted

@@ -1,0 +1,5 @@
+pub mod Asking
+pub mod Blaming
+pub mod Settling
+pub mod NodeFacts
+pub mod Laws

@@ -1,0 +1,3 @@
+pub mod Hows
+pub mod View
+pub mod Covers

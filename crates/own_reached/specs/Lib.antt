@@ -1,0 +1,2 @@
+pub mod LastMakers
+pub mod Laws

@@ -1,0 +1,10 @@
+pub mod Making
+pub mod Locals
+pub mod Held
+pub mod Scopes
+pub mod TypeNames
+pub mod Members
+pub mod Known
+pub mod SeenNames
+pub mod Counting
+pub mod Entries

@@ -1,0 +1,3 @@
+pub mod Chosen
+pub mod ItemLaws
+pub mod Saying
