@@ -1,16 +1,16 @@
 -- The best breaks of each question are the findings.
-use Rattle.std.proofs.Common.{◌≡◌, ℕ, ◌<◌, ◌⊎◌, inl, inr, true, false, List, [], ◌∷◌, ◌++◌, map, refl, sym, ap, ◌∙◌, subst, arith}
+use Rattle.std.proofs.Common.{◌≡◌, ◌<◌, ◌⊎◌, inl, inr, List, [], ◌∷◌, map, refl, sym, ap, ◌∙◌, subst}
 use Rattle.std.specs.Prelude.{Contains}
 use Rattle.own_tree.specs.declared.finding.Finding.{Finding}
 use Rattle.own_tree.specs.declared.finding.Rule.{Rule}
 use Rattle.own_tree.specs.declared.finding.Rule.TheVariants as rule
 use Rattle.own_tree.specs.declared.place.Place.{Place}
 use Rattle.own_tree.specs.declared.span.Span.{Span}
-use Rattle.own_paths.specs.Findings.{rule_number, SpanBefore, IsNotAfter, IsFirstLeaf, Precedes, Rising, IsSameBreak, BreaksAtOp, BreaksAtReturn, IsFallOff, IsLeastCause, IsLeastLeaf, IsPathFinding, IsPathFindingBy, ArePathFindings}
+use Rattle.own_paths.specs.Findings.{rule_number, SpanBefore, IsNotAfter, IsFirstLeaf, Precedes, Rising, BreaksAtOp, BreaksAtReturn, IsLeastCause, IsLeastLeaf, IsPathFinding, IsPathFindingBy, ArePathFindings}
 use Rattle.own_paths.specs.Makers.{BodyUses}
 use Rattle.own_paths.proofs.Orders.{findings_are_ordered, span_apart, span_on}
 use Rattle.own_shapes.specs.Places.{PlaceBefore, whole}
-use Rattle.own_shapes.proofs.Lists.{In, in_contains, contains_in}
+use Rattle.own_shapes.proofs.Lists.{In, in_contains}
 use Rattle.own_shapes.proofs.PlaceOrder.{place_apart, place_on}
 use Rattle.own_breaks.specs.Settling.{asked_place, question, IsSameQuestion, IsNoWorse, AreBest, BreaksBy, Breaks}
 use Rattle.own_breaks.proofs.Ranks.{same_apart}

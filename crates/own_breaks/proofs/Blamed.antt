@@ -1,6 +1,6 @@
 -- What breaks a path rule on some trace is broken at some node by a maker that reaches it, and the other way round.
-use Rattle.std.proofs.Common.{◌≡◌, ℕ, ◌<◌, ◌≤◌, ◌⊎◌, inl, inr, Bool, true, false, List, [], ◌∷◌, length, slice_get, Option, Some, None, refl, sym, ap, ◌∙◌, subst, arith}
-use Rattle.std.specs.Prelude.{◌↔◌, Contains, IsTrue}
+use Rattle.std.proofs.Common.{◌≡◌, ℕ, ◌<◌, ◌≤◌, ◌⊎◌, inl, inr, Bool, true, List, [], ◌∷◌, length, slice_get, Option, Some, None, refl, sym, ap, ◌∙◌, subst, arith}
+use Rattle.std.specs.Prelude.{◌↔◌}
 use Rattle.own_tree.specs.declared.finding.Finding.{Finding}
 use Rattle.own_tree.specs.declared.finding.Rule.{Rule}
 use Rattle.own_tree.specs.declared.finding.Rule.TheVariants as rule
@@ -10,7 +10,7 @@ use Rattle.own_tree.specs.declared.op.Op.{Op}
 use Rattle.own_tree.specs.declared.place.Place.{Place}
 use Rattle.own_tree.specs.declared.span.Span.{Span}
 use Rattle.own_paths.specs.Findings.{BreaksAtOp, BreaksAtReturn, OpBreaks, IsWithoutValue, IsFallOff}
-use Rattle.own_paths.specs.Makers.{BodyUses, Mark, fresh, marked, tree_of}
+use Rattle.own_paths.specs.Makers.{BodyUses, Mark, fresh, marked}
 use Rattle.own_shapes.proofs.Lists.{contains_get, get_contains}
 use Rattle.own_shapes.proofs.PlaceOrder.{numbers}
 use Rattle.own_walks.specs.AtNodes.{Comes, BreaksAtNode, BreaksAtExit}
@@ -20,7 +20,7 @@ use Rattle.own_walks.specs.Reaching.{IsOf, Reaches}
 use Rattle.own_walks.proofs.Breaking.{breaks_at_node, breaks_at_exit}
 use Rattle.own_walks.proofs.Carried.{comes_by}
 use Rattle.own_breaks.specs.Asking.{blames, asks, owes}
-use Rattle.own_breaks.specs.Blaming.{op_of, cause_of, blamed, reaches, IsCause, BreaksHere, LacksHere, BreaksAt, BreaksSomewhere, AreOfBody}
+use Rattle.own_breaks.specs.Blaming.{op_of, blamed, IsCause, BreaksHere, LacksHere, BreaksSomewhere, AreOfBody}
 use Rattle.own_breaks.specs.Settling.{BreaksBy, Breaks}
 use Rattle.own_breaks.proofs.Marks.{fresh_breaks, op_blames, op_broken, fresh_without, without_is, return_owes, return_breaks, blamed_is, blamed_by}
 

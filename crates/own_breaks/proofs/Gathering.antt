@@ -1,5 +1,5 @@
 -- Lists of what breaks rules, as they grow, and in order of their questions.
-use Rattle.std.proofs.Common.{◌≡◌, ℕ, suc, ◌+◌, ◌<◌, ◌⊎◌, inl, inr, Bool, true, false, List, [], ◌∷◌, map, refl, sym, ap, ◌∙◌, subst, arith}
+use Rattle.std.proofs.Common.{◌≡◌, ℕ, ◌+◌, ◌<◌, ◌⊎◌, inl, inr, Bool, true, false, List, [], ◌∷◌, map, refl, sym, ◌∙◌, subst, arith}
 use Rattle.std.proofs.lemmas.Cmp.{nat_cmp_total, nat_list_cmp_total, on_total, then_total}
 use Rattle.std.proofs.lemmas.List.Sorted.{ranks_by}
 use Rattle.std.specs.Cmp.{IsTotalOrder, IsStrictWeakOrder}
@@ -10,7 +10,7 @@ use Rattle.std.specs.Prelude.{Contains, if◌then◌else◌}
 use Rattle.own_tree.specs.declared.finding.Finding.{Finding}
 use Rattle.own_tree.specs.declared.place.Place.{Place}
 use Rattle.own_tree.specs.declared.span.Span.{Span}
-use Rattle.own_paths.specs.Findings.{Precedes, Rising, IsSameBreak, IsFirstLeaf, rule_number}
+use Rattle.own_paths.specs.Findings.{Precedes, Rising, rule_number}
 use Rattle.own_paths.proofs.Orders.{findings_are_ordered}
 use Rattle.own_shapes.proofs.Lists.{In, in_contains, contains_in}
 use Rattle.own_breaks.specs.Settling.{span_cmp, place_cmp, asked_place, question, IsSameQuestion, question_cmp, IsNoWorse, is_better, offered, Gathers}

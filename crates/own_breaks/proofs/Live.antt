@@ -1,5 +1,5 @@
 -- Whether a leaf may be live before a node, by the makers that reach it, and before an op, by its nodes.
-use Rattle.std.proofs.Common.{◌≡◌, ℕ, zero, suc, ◌<◌, ◌≤◌, ◌⊎◌, inl, inr, Bool, true, false, List, [], ◌∷◌, ◌++◌, length, slice_get, Option, Some, None, refl, sym, ap, ◌∙◌, subst, arith}
+use Rattle.std.proofs.Common.{◌≡◌, ℕ, zero, suc, ◌<◌, ◌≤◌, inl, inr, Bool, false, List, [], ◌∷◌, ◌++◌, length, slice_get, Some, refl, sym, ap, ◌∙◌, subst, arith}
 use Rattle.std.specs.Prelude.{◌↔◌, IsTrue}
 use Rattle.own_tree.specs.declared.graph.Maker.{Maker}
 use Rattle.own_tree.specs.declared.graph.Node.{Node}
@@ -8,10 +8,8 @@ use Rattle.own_tree.specs.declared.place.Place.{Place}
 use Rattle.own_paths.specs.Facts.{MayBe}
 use Rattle.own_paths.specs.Makers.{BodyUses, Mark, fresh, marked, is_live, maker, tree_of}
 use Rattle.own_shapes.proofs.PlaceOrder.{numbers}
-use Rattle.own_walks.specs.AtNodes.{Comes}
-use Rattle.own_walks.specs.Graphs.{IsGraphOf, Walk}
+use Rattle.own_walks.specs.Graphs.{IsGraphOf}
 use Rattle.own_walks.specs.Pairs.{starts_from, pairs_from, pairs_of, IsMark, at_start, at_node}
-use Rattle.own_walks.specs.Reaching.{IsOf, Reaches}
 use Rattle.own_walks.proofs.Breaking.{to_node, from_node}
 use Rattle.own_walks.proofs.Carried.{comes_by}
 use Rattle.own_breaks.specs.Blaming.{AreOfBody, reaches}

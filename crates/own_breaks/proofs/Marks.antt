@@ -1,7 +1,7 @@
 -- What the op of a maker says by its kind, and when a rule takes it as a cause.
-use Rattle.std.proofs.Common.{◌≡◌, ℕ, ◌⊎◌, inl, inr, Bool, true, false, ◌&&◌, ◌||◌, Option, Some, None, refl, sym, ap, ◌∙◌, subst}
+use Rattle.std.proofs.Common.{◌≡◌, inl, inr, Bool, true, false, ◌&&◌, ◌||◌, Option, Some, None, refl, ap, ◌∙◌}
 use Rattle.std.proofs.lemmas.Bool.{and_parts}
-use Rattle.std.specs.Prelude.{IsTrue, if◌then◌else◌}
+use Rattle.std.specs.Prelude.{if◌then◌else◌}
 use Rattle.own_tree.specs.declared.finding.Rule.{Rule}
 use Rattle.own_tree.specs.declared.finding.Rule.TheVariants as rule
 use Rattle.own_tree.specs.declared.op.Op.{Op}
@@ -13,7 +13,7 @@ use Rattle.own_tree.specs.declared.place.Place.{Place}
 use Rattle.own_tree.specs.declared.span.Span.{Span}
 use Rattle.own_paths.specs.Findings.{IsGivenUp, IsGivenBack, IsWithoutValue, ReturnBreaks, OpBreaks}
 use Rattle.own_paths.specs.Fixed.{is_assign, is_consume, is_discard}
-use Rattle.own_paths.specs.Makers.{BodyUses, Mark, fresh, made, ended, bare, marked, needs}
+use Rattle.own_paths.specs.Makers.{BodyUses, fresh, made, ended, bare, marked}
 use Rattle.own_shapes.specs.Places.{covers}
 use Rattle.own_breaks.specs.Asking.{is_end, is_declare, gives_value, takes_value, is_consumed_self, is_given_back, is_initialized_self, blames, owes, asks}
 use Rattle.own_breaks.specs.Blaming.{blamed}

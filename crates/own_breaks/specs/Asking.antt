@@ -1,5 +1,5 @@
 -- What a path rule asks: of which leaves at an op or a return, and which ops that made or ended a leaf break it.
-use Rattle.std.specs.Prelude.{ℕ, Bool, true, false, ◌&&◌, ◌||◌, Option, Some, None}
+use Rattle.std.specs.Prelude.{ℕ, Bool, true, false, ◌&&◌, ◌||◌, Option, Some}
 use Rattle.own_tree.specs.declared.finding.Rule.{Rule}
 use Rattle.own_tree.specs.declared.finding.Rule.TheVariants as rule
 use Rattle.own_tree.specs.declared.op.Op.{Op}

@@ -1,8 +1,7 @@
 -- The fact of a leaf before a node of the graph: over all walks there.
-use Rattle.std.specs.Prelude.{◌≡◌, ℕ, ◌⊎◌, Bool, true, false, List, [], ◌∷◌, filter, if◌then◌else◌, length, map, slice_get, slice_index_or, Option, Some, None}
+use Rattle.std.specs.Prelude.{◌≡◌, ℕ, Bool, true, false, List, [], ◌∷◌, filter, if◌then◌else◌, length, map, slice_get, slice_index_or, Option, Some, None}
 use Rattle.own_tree.specs.declared.graph.BodyFacts.{BodyFacts}
 use Rattle.own_tree.specs.declared.graph.LeafFact.{LeafFact}
-use Rattle.own_tree.specs.declared.graph.Maker.{Maker}
 use Rattle.own_tree.specs.declared.graph.Node.{Node}
 use Rattle.own_tree.specs.declared.op.Op.{Op}
 use Rattle.own_tree.specs.declared.op.OpKind.{OpKind}

@@ -662,6 +662,7 @@ module _ (types : Types) (program : Program) (reach : Reach) (grant : Grant) (me
       abbrev TakesLike : TExp → ℕ → Type 0
       TakesLike (closure at k0) k' = k' ≡ k0
       TakesLike (function at y) k' = Takes program reach k' (reach.formals y)
+      TakesLike (parenthesized at e) k' = TakesLike e k'
       TakesLike e k' = ⊥
 
       abbrev Gave1 : Passing → TExp → Passed → Type 0
@@ -681,6 +682,7 @@ module _ (types : Types) (program : Program) (reach : Reach) (grant : Grant) (me
           → Takes program reach k' (reach.formals x)
       taken_fits x (closure at k0) k' t is = subst (λ n. Takes program reach n (reach.formals x)) (sym is) t
       taken_fits x (function at y) k' t is = subst (Takes program reach k') t is
+      taken_fits x (parenthesized at e) k' t is = taken_fits x e k' t is
       taken_fits x _ k' t is = absurd is
 
       fits_one : (x : ℕ) (q : Passing) (e : TExp) (p : Passed) → (reach.borrowed x ≡ false → lends q ≡ false)
@@ -809,11 +811,20 @@ module _ (types : Types) (program : Program) (reach : Reach) (grant : Grant) (me
       named_one at x (lent l) c = absurd c
       named_one at x (lent_temporary s l) c = absurd c
 
+      inside_one : (at : At) (e : TExp) (p : Passed) → Gave1 passing.Closure e p
+          → Gave1 passing.Closure (parenthesized at e) p
+      inside_one at e (closed k' m) c = c
+      inside_one at e (given l) c = c
+      inside_one at e (lent l) c = c
+      inside_one at e (lent_temporary s l) c = c
+
       by_closure_keeps : (e : TExp) → ClosureOk program reach types k e
           → Keeps (Gave1 passing.Closure e) (pass_closure types program run me level e)
       by_closure_keeps (closure at k') w = pure_q (closed k' me) (refl, (λ x c h. inr (refl, w x c h)), refl)
       by_closure_keeps (function at x) w =
           weak_keeps (closure_of types program run me level x) (closure_of_keeps x w) (λ p c. named_one at x p c)
+      by_closure_keeps (parenthesized at e) w =
+          weak_keeps (pass_closure types program run me level e) (by_closure_keeps e w) (λ p c. inside_one at e p c)
       by_closure_keeps _ w = stray_keeps
 
       pass_keeps : (q : Passing) (e : TExp) (ev : Act Val) (T : Type 0) → (T → Keeps Any ev)

@@ -27,6 +27,7 @@ module _ (program : Program) (reach : Reach) where
   abbrev pub TakenBy : ℕ → TExp → Type 0
   TakenBy x (closure at k) = Takes program reach k (reach.formals x)
   TakenBy x (function at y) = reach.formals y ≡ reach.formals x
+  TakenBy x (parenthesized at e) = TakenBy x e
   TakenBy x e = Unit {0}
 
   -- Arguments suit the parameters of a body: what only reads its place is lent to a parameter that changes nothing.
@@ -79,6 +80,7 @@ module _ (program : Program) (reach : Reach) where
     abbrev pub ClosureOk : TExp → Type 0
     ClosureOk (closure at k') = Literal k'
     ClosureOk (function at x) = Names x
+    ClosureOk (parenthesized at e) = ClosureOk e
     ClosureOk e = Unit {0}
 
     abbrev pub TamePass : Passing → TExp → Type 0 → Type 0

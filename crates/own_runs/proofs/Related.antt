@@ -460,6 +460,7 @@ module _ (Rel : (A : Type 0) → Act A → Act A → Type 0) (closed_ : IsClosed
       pub pass_closure_r : (e : TExp) → Rel _ (pass_closure types program run me level e) (pass_closure types program run' me level e)
       pass_closure_r (closure at body) = pure_r _
       pass_closure_r (function at x) = closure_of_r x
+      pass_closure_r (parenthesized at e) = pass_closure_r e
       pass_closure_r e = closed_.strays_
 
       pub pass_r : (how : Passing) (e : TExp) {p q : Act Val} → Rel _ p q → Rel _ (pass types program run me level how e p) (pass types program run' me level how e q)

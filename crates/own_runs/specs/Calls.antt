@@ -178,10 +178,11 @@ module _ (types : Types) (program : Program) (run : Call) (me level : ℕ) where
   pass_inout (address p) = lend_place p
   pass_inout e = pass_receiver (path_of e)
 
-  -- a literal is passed with this activation
+  -- A literal is passed with this activation, and the name of a parameter also in parentheses.
   abbrev pub pass_closure : TExp → Act Passed
   pass_closure (closure at body) = pure (closed body me)
   pass_closure (function at x) = closure_of x
+  pass_closure (parenthesized at e) = pass_closure e
   pass_closure e = stray
 
   abbrev pub pass : Passing → TExp → Act Val → Act Passed

@@ -311,7 +311,10 @@ module _ (text : Text) (program : Program) (node_type : ℕ → Ty) (outer : ℕ
       (closes_more here n w at.ty q.0 q.1 (subst (λ z. Closes here (SeesTo here n w) z q.0 q.1) name.2 q.3)))
   passed_closure_k (address p) o h = absurd h
   passed_closure_k (path p) o h = absurd h
-  passed_closure_k (parenthesized at e) o h = absurd h
+  passed_closure_k (parenthesized at e) o h =
+      subst
+      (λ z. Keeps I (IsPassed here (suc n) w a_closure z) (pass_closure text.types program run me level e))
+      o.1 (passed_closure_k e o.0 h)
   passed_closure_k (number at n) o h = absurd h
   passed_closure_k (typed.text at bytes) o h = absurd h
   passed_closure_k (truth at b) o h = absurd h

@@ -1,5 +1,5 @@
--- Small texts, and one that is typed and strays.
-use Rattle.std.specs.Prelude.{◌≡◌, ℕ, suc, true, false, List, [], ◌∷◌, Option, Some, None, Result, Ok, Err, codes}
+-- Small texts.
+use Rattle.std.specs.Prelude.{◌≡◌, ℕ, suc, false, List, [], ◌∷◌, Option, Some, None, Result, Ok, Err, codes}
 use Rattle.std.proofs.Common.{refl}
 use Rattle.own_tree.specs.declared.tree.Name.{Name}
 use Rattle.own_tree.specs.declared.span.Span.{Span}
@@ -73,8 +73,7 @@ passing_on argument = record {
   tokens = 50;
 }
 
--- The name of a parameter of function type in parentheses, `g((f))`, is typed as an argument, and a run finds no
--- closure there.
+-- The name of a parameter of function type in parentheses, `g((f))`, is typed as an argument, and passes it on.
 abbrev pub in_parentheses : File
 in_parentheses = passing_on (tree.parenthesized (span 0) (path (codes "f")))
 
@@ -82,8 +81,8 @@ in_parentheses_is_typed : typed in_parentheses ≡ Ok (program_in (typed in_pare
 unfolding typed types_of types_declared first_missing
 in_parentheses_is_typed = refl
 
-in_parentheses_strays :
+in_parentheses_is_passed_on :
     is_astray (run_to (types_of in_parentheses) (program_in (typed in_parentheses)) 10
-    (program_in (typed in_parentheses)).main None [] 0 (start [] 9)) ≡ true
+    (program_in (typed in_parentheses)).main None [] 0 (start [] 9)) ≡ false
 unfolding typed types_of types_declared first_missing
-in_parentheses_strays = refl
+in_parentheses_is_passed_on = refl

@@ -243,6 +243,7 @@ module _ (here : Setting) where
   abbrev pub ClosureSteady : Site → TExp → Type 0
   ClosureSteady g (closure at j) = LiteralSteady g j
   ClosureSteady g (function at x) = NameSteady g x
+  ClosureSteady g (parenthesized at e) = ClosureSteady g e
   ClosureSteady g e = ⊥
 
   abbrev pub ArgSteady : Site → Passing → TExp → (is : Type 0) → Type 0
