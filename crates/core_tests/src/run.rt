@@ -1,8 +1,6 @@
-ghost use Rattle.std.specs.Prelude.{IfOk};
-ghost use Rattle.core_form.specs.CoreView.{core_view};
-ghost use Rattle.core_form.specs.Sizes.{IsFitting};
-
-use core_form::{Core, CoreForm, CoreFunction, CorePiece, CoreWord};
+use core_form::limits::MOST_DISPLACEMENT;
+use core_form::{Core, CoreAt, CoreForm, CoreFunction, CorePiece, CoreWord};
+use core_sizes::fits;
 use low_body::to_wasm;
 use own_io::MemorySink;
 use own_tree::{Bytes, Row};
@@ -13,14 +11,9 @@ use wasm_read::read_module;
 use wasm_run::{Machine, Ran};
 use wasm_write::write_module;
 
-/// A core that prints 42 as a line.
-fn answer(alloc: Global) -> Result<Core, AllocError>
-    ensures { IfOk result (λ core. IsFitting (core_view core)) }
-{
-    let pieces = vec![in alloc;
-        CorePiece::Int(CoreWord::Constant(42)),
-        CorePiece::Text(0, 1),
-    ]?;
+/// A core that prints a word as a line.
+fn printing(alloc: Global, word: CoreWord) -> Result<Core, AllocError> {
+    let pieces = vec![in alloc; CorePiece::Int(word), CorePiece::Text(0, 1)]?;
     let code = vec![in alloc; CoreForm::Print(Items::from_vec(pieces))]?;
     let main = CoreFunction {
         locals: 0,
@@ -37,7 +30,10 @@ fn answer(alloc: Global) -> Result<Core, AllocError>
 #[test]
 fn a_core_runs_as_the_module_that_its_bytes_spell(rt: HostRuntime) -> Result<(), Fail> {
     let alloc = rt.alloc();
-    let bytes = write_module(alloc, &to_wasm(alloc, &answer(alloc)?)?)?;
+    let bytes = write_module(
+        alloc,
+        &to_wasm(alloc, &printing(alloc, CoreWord::Constant(42))?)?,
+    )?;
     if bytes.len() >= 1 << 32 {
         return Err("too long")?;
     }
@@ -50,5 +46,17 @@ fn a_core_runs_as_the_module_that_its_bytes_spell(rt: HostRuntime) -> Result<(),
     let ran = machine.run(1_000, &mut sink);
     assert_eq!(rt; matches!(ran, Ran::Ended { .. }), true);
     assert_eq!(rt; sink.written(), b"42\n".as_slice());
+    Ok(())
+}
+
+#[test]
+fn a_core_is_refused_where_it_is_larger_than_its_module(rt: HostRuntime) -> Result<(), Fail> {
+    let alloc = rt.alloc();
+    let places = [(MOST_DISPLACEMENT, true), (MOST_DISPLACEMENT + 1, false)];
+    for (words, fitting) in places {
+        let core = printing(alloc, CoreWord::Load(CoreAt::Mine(words)))?;
+        assert_eq!(rt; fits(&core), fitting);
+        assert_eq!(rt; to_wasm(alloc, &core).is_ok(), fitting);
+    }
     Ok(())
 }

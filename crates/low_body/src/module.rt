@@ -13,6 +13,7 @@ use crate::code::push_forms;
 use crate::round::Round;
 use core_form::limits::{AREA, MOST_PRINTED};
 use core_form::{Core, CoreFunction};
+use core_sizes::fits;
 use low_laws::places::{FUNCTION, MAIN, OWN, PAGES};
 use own_tree::row::{Bytes, Row};
 use sqlite_items::Items;
@@ -204,14 +205,26 @@ fn module_of(alloc: Global, core: &Core) -> Result<Module, AllocError>
     })
 }
 
-/// The module of a core that fits (WebAssembly Core 1.0, 2.5). It does what the core does, in both directions,
-/// within `STEPS` steps for each form that a run counts, and its shortest spelling spells it. Only want of
-/// memory is an error.
-pub fn to_wasm(alloc: Global, core: &Core) -> Result<Module, AllocError>
+/// The module of a core that fits.
+fn fitting_module(alloc: Global, core: &Core) -> Result<Module, AllocError>
     requires { IsFitting (core_view core.now) }
     ensures value { IfOk result (λ built. built ≡ lowered (core_view core.now)) }
     ensures follows { IfOk result (λ built. Follows built (core_view core.now)) }
     ensures short { IfOk result IsShort }
 {
     module_of(alloc, core)
+}
+
+/// The module of a core (WebAssembly Core 1.0, 2.5). It does what the core does, in both directions, within `STEPS`
+/// steps for each form that a run counts, and its shortest spelling spells it. It is an error where memory is
+/// refused, and where the core is larger than a module has room for (`core_sizes::fits`).
+pub fn to_wasm(alloc: Global, core: &Core) -> Result<Module, AllocError>
+    ensures value { IfOk result (λ built. built ≡ lowered (core_view core.now)) }
+    ensures follows { IfOk result (λ built. Follows built (core_view core.now)) }
+    ensures short { IfOk result IsShort }
+{
+    if !fits(core) {
+        return Err(AllocError);
+    }
+    fitting_module(alloc, core)
 }

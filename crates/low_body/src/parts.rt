@@ -1,15 +1,17 @@
-ghost use Rattle.std.specs.Prelude.{◌≡◌, ◌++◌, ◌∷◌, [], ◌*◌, ◌<◌, ◌^◌, OnOk, IfOk};
+ghost use Rattle.std.specs.Prelude.{◌≡◌, ◌++◌, ◌∷◌, [], ◌+◌, ◌*◌, ◌<◌, ◌≤◌, ◌^◌, OnOk, IfOk};
 ghost use Rattle.core_form.specs.CoreSource.{copy};
 ghost use Rattle.core_form.specs.CoreView.{at_view};
 ghost use Rattle.core_form.specs.Sizes.{FormFits, PlaceFits};
 ghost use Rattle.low_arith.specs.Code.{checked_code};
-ghost use Rattle.low_laws.specs.Lower.{access, bare, byte_code, compare_code, copy_body, displacement, form_code, place_code, wrap_code};
+ghost use Rattle.low_laws.specs.Lower.{access, byte_code, compare_code, copy_body, copy_code, displacement, long_copy, moves_code, place_code, short_copy, wrap_code};
+ghost use Rattle.core_form.specs.declared.limits.TheConstants.{AREA, FRAMES, MOST_DISPLACEMENT};
+ghost use Rattle.low_laws.specs.declared.places.TheConstants.{MOST_PLAIN_WORDS};
 
 use core_form::CoreAt;
 use core_form::limits::{FRAME, FRAMES};
 use low_arith::checked;
 use low_arith::places::TRAP;
-use low_laws::places::{FROM, LEFT, TO};
+use low_laws::places::{FROM, LEFT, MOST_PLAIN_WORDS, TO};
 use own_tree::arithmetic::Arith;
 use own_tree::typed::Comparison;
 use sqlite_items::Items;
@@ -31,7 +33,7 @@ pub(crate) fn access(words: u32) -> MemArg
 pub(crate) fn displacement(at: &CoreAt) -> u32
     requires { PlaceFits (at_view at.now) }
     ensures value { result ≡ displacement (at_view at.now) }
-    ensures within { result < 2 ^ 29 }
+    ensures within { result ≤ FRAMES + MOST_DISPLACEMENT }
 {
     match at {
         CoreAt::Mine(offset) => *offset,
@@ -145,17 +147,53 @@ fn copy_body(alloc: Global) -> Result<Vec<Instr>, AllocError>
     Ok(code)
 }
 
-/// Adds the code of a copy of one word and so many more.
-pub(crate) fn push_copy(
+/// Adds the code that moves so many words, one after another.
+fn push_moves(code: &mut Vec<Instr>, count: u32, from: u32, to: u32) -> Result<(), AllocError>
+    requires count { count ≤ MOST_PLAIN_WORDS }
+    requires from { from ≤ FRAMES + MOST_DISPLACEMENT }
+    requires to { to ≤ FRAMES + MOST_DISPLACEMENT }
+    ensures { OnOk result (code.new.items ≡ code.old.items ++ moves_code count from to) }
+{
+    for word in 0..count {
+        code.push(Instr::LocalGet(TO))?;
+        code.push(Instr::LocalGet(FROM))?;
+        code.push(Instr::I64Load(access(from + word)))?;
+        code.push(Instr::I64Store(access(to + word)))?;
+    }
+    Ok(())
+}
+
+/// Adds the code of a copy of few words, which has no loop.
+fn push_short_copy(
+    code: &mut Vec<Instr>,
+    more: u32,
+    from: &CoreAt,
+    to: &CoreAt,
+) -> Result<(), AllocError>
+    requires few { more < MOST_PLAIN_WORDS }
+    requires from { PlaceFits (at_view from.now) }
+    requires to { PlaceFits (at_view to.now) }
+    ensures { OnOk result (code.new.items ≡ code.old.items ++ short_copy more (at_view from.now) (at_view to.now)) }
+{
+    push_place(code, from)?;
+    push_place(code, to)?;
+    code.push(Instr::LocalSet(TO))?;
+    code.push(Instr::LocalSet(FROM))?;
+    push_moves(code, more + 1, displacement(from), displacement(to))
+}
+
+/// Adds the code of a copy of many words, which is a loop.
+fn push_long_copy(
     alloc: Global,
     code: &mut Vec<Instr>,
     more: u32,
     from: &CoreAt,
     to: &CoreAt,
 ) -> Result<(), AllocError>
-    requires { FormFits (copy more (at_view from.now) (at_view to.now)) }
-    ensures { OnOk result (code.new.items
-        ≡ code.old.items ++ form_code (copy more (at_view from.now) (at_view to.now)) bare) }
+    requires more { more ≤ AREA }
+    requires from { PlaceFits (at_view from.now) }
+    requires to { PlaceFits (at_view to.now) }
+    ensures { OnOk result (code.new.items ≡ code.old.items ++ long_copy more (at_view from.now) (at_view to.now)) }
 {
     push_byte(code, from)?;
     push_byte(code, to)?;
@@ -165,6 +203,24 @@ pub(crate) fn push_copy(
     code.push(Instr::LocalSet(LEFT))?;
     code.push(Instr::Loop(None, Items::from_vec(copy_body(alloc)?)))?;
     Ok(())
+}
+
+/// Adds the code of a copy of one word and so many more.
+pub(crate) fn push_copy(
+    alloc: Global,
+    code: &mut Vec<Instr>,
+    more: u32,
+    from: &CoreAt,
+    to: &CoreAt,
+) -> Result<(), AllocError>
+    requires { FormFits (copy more (at_view from.now) (at_view to.now)) }
+    ensures { OnOk result (code.new.items ≡ code.old.items ++ copy_code more (at_view from.now) (at_view to.now)) }
+{
+    if more < MOST_PLAIN_WORDS {
+        push_short_copy(code, more, from, to)
+    } else {
+        push_long_copy(alloc, code, more, from, to)
+    }
 }
 
 /// The instruction of a comparison.

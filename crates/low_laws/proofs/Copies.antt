@@ -1,5 +1,5 @@
--- The loop of a copy: a word a turn.
-use Rattle.std.proofs.Common.{◌≡◌, ℕ, zero, suc, ◌+◌, ◌*◌, ◌%◌, ◌^◌, ◌≤◌, ◌<◌, List, [], ◌∷◌, Some, None, refl, ap, ◌∙◌, subst, arith, length}
+-- Copies: word by word, and by a loop of a word a turn.
+use Rattle.std.proofs.Common.{◌≡◌, ℕ, zero, suc, ◌+◌, ◌*◌, ◌%◌, ◌^◌, ◌≤◌, ◌<◌, List, [], ◌∷◌, ◌++◌, Some, None, refl, ap, ◌∙◌, subst, arith, length}
 use Rattle.std.specs.Prelude.{ℤ, ◌==◌, if◌then◌else◌}
 use Rattle.std.specs.Int.{w32, w64}
 use Rattle.wasm_form.specs.declared.instr.Instr.{Instr}
@@ -11,7 +11,7 @@ use Rattle.wasm_form.specs.declared.types.Value.TheVariants.{I32}
 use Rattle.wasm_form.specs.Steps.{Config, Layer, Label, Goes, below_all, number_at, with_number}
 use Rattle.wasm_form.specs.Integers.{iadd, isub}
 use Rattle.core_form.specs.CoreRun.{copied}
-use Rattle.low_laws.specs.Lower.{bits, copy_body}
+use Rattle.low_laws.specs.Lower.{bits, access, copy_body, moves_code}
 use Rattle.low_laws.specs.Shows.{Holds, locals_of}
 use Rattle.wasm_laws.proofs.Stretches.{so, here, goes, comes_on}
 use Rattle.wasm_laws.proofs.Opcodes.{gets, sets32, tees32, puts32, adds32, subtracts32, loads, stores, loops, passes, takes, leaves}
@@ -105,5 +105,41 @@ module _ (m : Module) (size : Limits) (one : m.memories ≡ size ∷ []) (texts 
         comes = subst (λ (ls : List Value). Comes m (18 * suc more + 19) [] (at m layers memory input again vs (with_copy (8 * a) (8 * b) (suc (suc more)))) (at m layers further.after_it input rest vs ls))
             (let e : suc a + suc more ≡ a + suc (suc more) = omega arith in let f : suc b + suc more ≡ b + suc (suc more) = omega arith in ap (λ (n : ℕ). with_copy (8 * n) (8 * (suc b + suc more)) 0) e ∙ ap (λ (n : ℕ). with_copy (8 * (a + suc (suc more))) (8 * n) 0) f)
             (count_is (omega arith) (comes_on (turn a b (suc more) words memory (omega (arith, la)) (omega (arith, lb)) (omega (arith, la)) holds) (goes (takes 0 more refl) further.comes)));
+        holds = further.holds;
+      }
+
+  -- ---- without a loop
+
+  -- the locals stay as they are
+  pub record Moved (more a b from to d e left : ℕ) (words : ℕ → ℤ) (memory : List ℕ) : Type 0 where
+    pub after_it : List ℕ
+    pub comes : Comes m (4 * more + 4) [] (at m layers memory input (moves_code (suc more) d e ++ rest) vs (with_copy from to left)) (at m layers after_it input rest vs (with_copy from to left))
+    pub holds : Holds texts (copied more a b words) after_it
+
+  -- one word, and what comes after it
+  move : (a b from to d e left : ℕ) (code : List Instr) (words : ℕ → ℤ) (memory : List ℕ) → from + 8 * d ≡ 8 * a → to + 8 * e ≡ 8 * b → a < AREA → b < AREA → Holds texts words memory
+      → Comes m 4 [] (at m layers memory input (i.LocalGet 4 ∷ i.LocalGet 3 ∷ i.I64Load (access d) ∷ i.I64Store (access e) ∷ code) vs (with_copy from to left)) (at m layers (with_number w64 memory (8 * b) (bits (words a))) input code vs (with_copy from to left))
+  move a b from to d e left code words memory ea eb la lb holds =
+      let there : number_at w64 memory (from + 8 * d) ≡ Some (bits (words a)) = ap (number_at w64 memory) ea ∙ holds.each a la in
+      let enough : to + 8 * e + 8 ≤ length memory = let l = holds.room in omega (arith, l, lb, eb) in
+      let first : length vs + below_all layers < MOST_OPERANDS = omega (arith, room) in
+      let second : suc (length vs) + below_all layers < MOST_OPERANDS = omega (arith, room) in
+      goes (gets 4 refl first)
+      (goes (gets 3 refl second)
+      (goes (loads _ one there)
+      (goes (so (stores _ one enough) (ap (λ (n : ℕ). Goes (at m layers (with_number w64 memory n (bits (words a) % 2 ^ 64)) input code vs (with_copy from to left))) eb ∙ ap (λ (n : ℕ). Goes (at m layers (with_number w64 memory (8 * b) n) input code vs (with_copy from to left))) (bits_whole (words a) (holds.whole a)))) here)))
+
+  pub moves : (more a b from to d e left : ℕ) (words : ℕ → ℤ) (memory : List ℕ) → from + 8 * d ≡ 8 * a → to + 8 * e ≡ 8 * b → a + more < AREA → b + more < AREA → Holds texts words memory → Moved more a b from to d e left words memory
+  moves zero a b from to d e left words memory ea eb la lb holds = record {
+    after_it = with_number w64 memory (8 * b) (bits (words a));
+    comes = move a b from to d e left rest words memory ea eb (omega (arith, la)) (omega (arith, lb)) holds;
+    holds = holds_store texts words memory b (words a) (holds.whole a) holds (omega (arith, lb));
+  }
+  moves (suc more) a b from to d e left words memory ea eb la lb holds =
+      let stored = holds_store texts words memory b (words a) (holds.whole a) holds (omega (arith, lb)) in
+      let further = moves more (suc a) (suc b) from to (suc d) (suc e) left (λ c. if c == b then words a else words c) (with_number w64 memory (8 * b) (bits (words a))) (omega (arith, ea)) (omega (arith, eb)) (omega (arith, la)) (omega (arith, lb)) stored in
+      record {
+        after_it = further.after_it;
+        comes = count_is (omega arith) (comes_on (move a b from to d e left (moves_code (suc more) (suc d) (suc e) ++ rest) words memory ea eb (omega (arith, la)) (omega (arith, lb)) holds) further.comes);
         holds = further.holds;
       }

@@ -18,8 +18,8 @@ use Rattle.own_ways.specs.Ways as ways
 use Rattle.core_form.specs.CoreSource.{At, mine, next, common, far, Word, constant, load, local, address, arithmetic, negate, compare, pick, following, read_int, Form, store, store_local, print, Pieces, no_pieces, text_piece, int_piece, bool_piece, words_in, when, block, loop, jump, call, call_word, copy, Code, nothing, form, Function, wrap, call_here}
 use Rattle.core_form.specs.CoreSource as forms
 use Rattle.core_form.specs.CoreRun.{State, Flow, on, out, place, word, is_zero, with_locals, copied, turning, again, caught, turn_or_stop, written, Enter, act, acts, numbered, values, say, ticks}
-use Rattle.low_laws.specs.Lower.{bits, access, place_code, displacement, word_code, form_code, forms_code, in_if, in_block, copy_body, byte_code, pieces_code, sets_code, say_code, Round}
-use Rattle.low_laws.specs.declared.places.TheConstants.{LOCALS}
+use Rattle.low_laws.specs.Lower.{bits, access, place_code, displacement, word_code, form_code, forms_code, in_if, in_block, copy_body, byte_code, moves_code, short_copy, long_copy, pieces_code, sets_code, say_code, Round}
+use Rattle.low_laws.specs.declared.places.TheConstants.{LOCALS, MOST_PLAIN_WORDS}
 use Rattle.core_form.specs.Sizes.{IsInt, AreInts, pieces_height, word_height, form_height, height}
 use Rattle.low_laws.specs.Shows.{long, Holds, Shows, Scratch, locals_of, byte_of}
 use Rattle.wasm_laws.proofs.Stretches as stretch
@@ -28,7 +28,7 @@ use Rattle.wasm_laws.proofs.Opcodes.{gets, sets, sets32, loads, stores, puts32, 
 use Rattle.wasm_laws.proofs.Opcodes as op
 use Rattle.low_laws.proofs.Memory.{bits_whole, signed_bits, holds_store}
 use Rattle.low_laws.proofs.Words.{Serves, host_at, Ready, place_lands, place_spot, word_spot, IsPlace, WordRuns, constant_runs, load_runs, local_runs, address_runs, arithmetic_runs, negate_runs, compare_runs, pick_runs, first_runs, read_runs, Target, FlowAsks, flow_spot, FlowLands, CodeRuns, FormRuns, and_on, PiecesRun, values_spot, no_pieces_run, text_piece_runs, word_before, is_own, typed, wrap_runs}
-use Rattle.low_laws.proofs.Copies.{copies}
+use Rattle.low_laws.proofs.Copies.{copies, moves}
 use Rattle.low_laws.proofs.Numbers.{zero_bits, get_long, set_ints, natural_bits, local_there, local_set, stacked, AreWords, Keeps, keeps_other, kept_there, kept_set, keeping, get_within, get_set}
 use Rattle.low_laws.proofs.Lands.{Spot, Reaches, Lands, behind, counted, Free, and_then, straight, changed, ticked, shows_ticked, turned}
 use Rattle.wasm_laws.specs.Stretches.{Does, Comes}
@@ -466,7 +466,7 @@ module _ (m : Module) (functions : List Function) (serves : Serves m functions) 
               ap (λ (n : ℕ). step m (at m layers memory' t.input (i.CallIndirect 1 ∷ rest) (I32 n ∷ I32 (byte_of (suc me)) ∷ vs) locals')) number
               ∙ op.indirect m layers [] _ memory' t.input rest (I32 (byte_of (suc me)) ∷ vs) locals' serves.type serves.table_size (6 + f) f 1 serves.has_table serves.own_type (serves.element f g e) (is_own f serves) (typed f g serves e) serves.takes serves.leaves
 
-  -- ---- copies
+  -- ---- copies of many words
 
   abbrev copy_tail : ℕ → List Instr → List Instr
   copy_tail more rest = i.LocalSet 4 ∷ i.LocalSet 3 ∷ i.I32Const (suc more) ∷ i.LocalSet 5 ∷ i.Loop None copy_body ∷ rest
@@ -500,8 +500,12 @@ module _ (m : Module) (functions : List Function) (serves : Serves m functions) 
         },
       )
 
-  pub copy_runs : (more : ℕ) (p q : At) → Runs_form (copy more p q)
-  copy_runs more p q ds layers rest vs s memory locals ready = recode 32 ds layers rest vs locals memory s.input s _ _ _ brackets
+  abbrev Runs_copy : (more : ℕ) (p q : At) → List Instr → Type 0
+  Runs_copy more p q code = (ds : Round) (layers : List Layer) (rest : List Instr) (vs : List Value) (s : State) (memory : List ℕ) (locals : List Value) → IsReady layers vs 4 s memory locals
+      → Lands_on 32 s (at m layers memory s.input (code ++ rest) vs locals) ds layers rest vs (act texts enter me depth (copy more p q) s)
+
+  long_runs : (more : ℕ) (p q : At) → Runs_copy more p q (long_copy more p q)
+  long_runs more p q ds layers rest vs s memory locals ready = recode 32 ds layers rest vs locals memory s.input s _ _ _ brackets
       (and_then m (Shows texts me) (asks ds layers) (spot_of ds layers rest vs) Free 1 31 (after_place layers (i.I32Const (8 * displacement p) ∷ i.I32Add ∷ second) vs p) (IsPlace m functions serves texts me levels depth deep p) s _ (place me p s) _ (omega arith)
       (place_lands m functions serves texts me levels depth deep p layers (i.I32Const (8 * displacement p) ∷ i.I32Add ∷ second) vs s memory locals (ready_after 2 (omega arith) (omega arith) ready.shows ready))
       (λ a t memory' locals' is shows fewer.
@@ -521,9 +525,62 @@ module _ (m : Module) (functions : List Function) (serves : Serves m functions) 
       tail : List Instr
       tail = i.LocalSet 4 ∷ i.LocalSet 3 ∷ i.I32Const (suc more) ∷ i.LocalSet 5 ∷ i.Loop None copy_body ∷ []
 
-      brackets : form_code (copy more p q) ds ++ rest ≡ place_code p ++ (i.I32Const (8 * displacement p) ∷ i.I32Add ∷ second)
+      brackets : long_copy more p q ++ rest ≡ place_code p ++ (i.I32Const (8 * displacement p) ∷ i.I32Add ∷ second)
       brackets = three (byte_code p) (byte_code q) tail rest ∙ append_assoc (place_code p) (i.I32Const (8 * displacement p) ∷ i.I32Add ∷ []) (byte_code q ++ (tail ++ rest))
           ∙ ap (λ (code : List Instr). place_code p ++ (i.I32Const (8 * displacement p) ∷ i.I32Add ∷ code)) (append_assoc (place_code q) (i.I32Const (8 * displacement q) ∷ i.I32Add ∷ []) (tail ++ rest))
+
+  -- ---- copies of few words
+
+  abbrev moves_tail : ℕ → At → At → List Instr → List Instr
+  moves_tail more p q rest = i.LocalSet 4 ∷ i.LocalSet 3 ∷ (moves_code (suc more) (displacement p) (displacement q) ++ rest)
+
+  -- from the byte of the second place on
+  moves_end : (more a b : ℕ) (p q : At) (ds : Round) (layers : List Layer) (rest : List Instr) (vs : List Value) (s : State) (memory : List ℕ) (locals : List Value) → displacement p ≤ a → displacement q ≤ b → length vs + below_all layers + 4 ≤ MOST_OPERANDS → Shows texts me s memory locals → (t u : Bool) → nat_lt (a + more) AREA ≡ t → nat_lt (b + more) AREA ≡ u
+      → Lands_on 30 s (at m layers memory s.input (moves_tail more p q rest) (I32 (8 * b - 8 * displacement q) ∷ I32 (8 * a - 8 * displacement p) ∷ vs) locals) ds layers rest vs
+      (after (after (after (ways.pick t (pure nil) stray s) (λ w. ways.pick u (pure nil) stray)) (λ w. ways.change (λ s. record s { words = copied more a b s.words; forms = s.forms + more }))) (λ w. pure on))
+  moves_end more a b p q ds layers rest vs s memory locals apart apart' room shows false u et eu = tt
+  moves_end more a b p q ds layers rest vs s memory locals apart apart' room shows true false et eu = tt
+  moves_end more a b p q ds layers rest vs s memory locals apart apart' room shows true true et eu =
+      let from = 8 * a - 8 * displacement p in
+      let to = 8 * b - 8 * displacement q in
+      let done = moves m serves.size serves.memory texts (byte_of me) shows.scratch.one shows.scratch.other shows.scratch.kept shows.scratch.all_kept s.locals layers rest vs s.input (omega (arith, room)) more a b from to (displacement p) (displacement q) shows.scratch.left s.words memory (omega (arith, apart)) (omega (arith, apart')) (ltb-true _ _ et) (ltb-true _ _ eu) shows.holds in (
+        tt,
+        λ w. record {
+          steps = 2 + (4 * more + 4);
+          text = [];
+          memory = done.after_it;
+          locals = locals_of (byte_of me) (record { one = shows.scratch.one; other = shows.scratch.other; from = from; to = to; left = shows.scratch.left; kept = shows.scratch.kept; all_kept = shows.scratch.all_kept }) s.locals;
+          comes = subst (λ (ls : List Value). Comes m (2 + (4 * more + 4)) [] (at m layers memory s.input (moves_tail more p q rest) (I32 to ∷ I32 from ∷ vs) ls) (at m layers done.after_it s.input rest vs (locals_of (byte_of me) (record { one = shows.scratch.one; other = shows.scratch.other; from = from; to = to; left = shows.scratch.left; kept = shows.scratch.kept; all_kept = shows.scratch.all_kept }) s.locals))) (sym shows.are)
+              (comes_on (goes (sets32 4 refl) (goes (sets32 3 refl) here)) done.comes);
+          shows = record { holds = done.holds; scratch = record { one = shows.scratch.one; other = shows.scratch.other; from = from; to = to; left = shows.scratch.left; kept = shows.scratch.kept; all_kept = shows.scratch.all_kept }; are = refl; locals_whole = shows.locals_whole; input_whole = shows.input_whole };
+          log = sym (append-nil s.log);
+          most = omega arith;
+          least = omega arith;
+          fewer = omega arith;
+        },
+      )
+
+  short_runs : (more : ℕ) (p q : At) → Runs_copy more p q (short_copy more p q)
+  short_runs more p q ds layers rest vs s memory locals ready = recode 32 ds layers rest vs locals memory s.input s _ _ _ (three (place_code p) (place_code q) tail rest)
+      (and_then m (Shows texts me) (asks ds layers) (spot_of ds layers rest vs) Free 1 31 (after_place layers second vs p) (IsPlace m functions serves texts me levels depth deep p) s _ (place me p s) _ (omega arith)
+      (place_lands m functions serves texts me levels depth deep p layers second vs s memory locals (ready_after 2 (omega arith) (omega arith) ready.shows ready))
+      (λ a t memory' locals' is shows fewer.
+      and_then m (Shows texts me) (asks ds layers) (spot_of ds layers rest vs) Free 1 30 (after_place layers (moves_tail more p q rest) (I32 (8 * a - 8 * displacement p) ∷ vs) q) (IsPlace m functions serves texts me levels depth deep q) t _ (place me q t) _ (omega arith)
+      (place_lands m functions serves texts me levels depth deep q layers (moves_tail more p q rest) (I32 (8 * a - 8 * displacement p) ∷ vs) t memory' locals' (ready_after 2 (omega arith) fewer shows ready))
+      (λ b u memory'' locals'' is' shows' fewer'. moves_end more a b p q ds layers rest vs u memory'' locals'' is.apart is'.apart (let r = ready.room in let f = ready.few in omega (arith, r, f)) shows' (nat_lt (a + more) AREA) (nat_lt (b + more) AREA) refl refl)))
+    where
+      tail : List Instr
+      tail = i.LocalSet 4 ∷ i.LocalSet 3 ∷ moves_code (suc more) (displacement p) (displacement q)
+
+      second : List Instr
+      second = place_code q ++ (tail ++ rest)
+
+  copies_run : (more : ℕ) (p q : At) (t : Bool) → Runs_copy more p q (if t then short_copy more p q else long_copy more p q)
+  copies_run more p q true = short_runs more p q
+  copies_run more p q false = long_runs more p q
+
+  pub copy_runs : (more : ℕ) (p q : At) → Runs_form (copy more p q)
+  copy_runs more p q = copies_run more p q (nat_lt more MOST_PLAIN_WORDS)
 
   -- ---- lists of forms
 

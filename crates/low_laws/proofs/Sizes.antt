@@ -1,5 +1,7 @@
 -- The code of a core is spelled by its shortest spelling, which has no more bytes than the core's count says.
-use Rattle.std.proofs.Common.{ℕ, zero, suc, ◌+◌, ◌*◌, ◌≤◌, ◌<◌, [], Some, None, arith, ◌^◌}
+use Rattle.std.proofs.Common.{◌≡◌, ℕ, zero, suc, ◌+◌, ◌*◌, ◌≤◌, ◌<◌, Bool, true, false, [], Some, None, refl, arith, ◌^◌}
+use Rattle.std.specs.Prelude.{nat_lt, if◌then◌else◌}
+use Rattle.std.proofs.lemmas.Bool.{ltb-true}
 use Rattle.own_tree.specs.declared.arithmetic.Arith.{Arith}
 use Rattle.own_tree.specs.declared.arithmetic.Arith.TheVariants.{Add, Sub, Mul, Div, Rem, Neg}
 use Rattle.own_tree.specs.declared.typed.Comparison.{Comparison}
@@ -7,10 +9,10 @@ use Rattle.own_tree.specs.declared.typed.Comparison.TheVariants as comparison
 use Rattle.wasm_form.specs.declared.types.ValueType.TheVariants as value_type
 use Rattle.low_arith.specs.Code.{checked_code, trap_if, division_tests, product_tests}
 use Rattle.core_form.specs.CoreSource.{At, mine, next, common, far, Word, constant, load, local, address, arithmetic, negate, compare, pick, following, read_int, Form, store, store_local, print, Pieces, no_pieces, text_piece, int_piece, bool_piece, words_in, when, block, loop, jump, call, call_word, copy, trap, Code, nothing, form, wrap, call_here}
-use Rattle.low_laws.specs.Lower.{bits, access, place_code, displacement, byte_code, copy_body, word_code, form_code, forms_code, compare_code, in_if, in_block, wrap_code, pieces_code, sets_code, say_code, Round, label}
-use Rattle.low_laws.specs.declared.places.TheConstants.{LOCALS}
+use Rattle.low_laws.specs.Lower.{bits, access, place_code, displacement, byte_code, copy_body, moves_code, short_copy, long_copy, word_code, form_code, forms_code, compare_code, in_if, in_block, wrap_code, pieces_code, sets_code, say_code, Round, label}
+use Rattle.low_laws.specs.declared.places.TheConstants.{LOCALS, MOST_PLAIN_WORDS}
 use Rattle.core_form.specs.Sizes.{PlaceFits, U32, WordFits, FormFits, CodeFits, word_depth, form_depth, depth, place_bytes, word_bytes, form_bytes, bytes, PiecesFit, pieces_depth, pieces_bytes, said_bytes}
-use Rattle.core_form.specs.declared.limits.TheConstants.{AREA, FRAME, MOST_PRINTED, MOST_JUMPED}
+use Rattle.core_form.specs.declared.limits.TheConstants.{AREA, FRAME, FRAMES, MOST_PRINTED, MOST_JUMPED, MOST_DISPLACEMENT}
 use Rattle.low_laws.proofs.Memory.{bits_small}
 use Rattle.wasm_laws.proofs.Spelled.{InstrIs, CodeIs, nil, cons, at_most, append_is, block_fits, loop_fits, if_fits}
 use Rattle.wasm_laws.proofs.Spelled as x
@@ -80,6 +82,25 @@ copy_is {labels = labels} =
     (cons (x.local_get 3 (omega arith)) (cons (x.i32_const 8 (omega arith)) (cons x.i32_add (cons (x.local_set 3 (omega arith))
     (cons (x.local_get 4 (omega arith)) (cons (x.i32_const 8 (omega arith)) (cons x.i32_add (cons (x.local_set 4 (omega arith))
     (cons (x.local_get 5 (omega arith)) (cons (x.i32_const 1 (omega arith)) (cons x.i32_sub (cons (x.local_tee 5 (omega arith)) (cons (x.br_if 0 (omega arith)) (nil labels)))))))))))))))))
+
+moves_are : {labels : ℕ} (count from to : ℕ) → from + count ≤ 2 ^ 29 → to + count ≤ 2 ^ 29 → CodeIs labels (moves_code count from to) (44 * count)
+moves_are {labels = labels} zero from to lf lt = nil labels
+moves_are {labels = labels} (suc count) from to lf lt = at_most _ (omega arith) (cons (x.local_get 4 (omega arith)) (cons (x.local_get 3 (omega arith)) (cons (x.i64_load _ (access_fits from (omega (arith, lf)))) (cons (x.i64_store _ (access_fits to (omega (arith, lt)))) (moves_are count (suc from) (suc to) (omega (arith, lf)) (omega (arith, lt)))))))
+
+far_off : (p : At) → PlaceFits p → displacement p ≤ FRAMES + MOST_DISPLACEMENT
+far_off (mine o) h = omega (arith, h)
+far_off (next o) h = omega (arith, h)
+far_off (common o) h = omega (arith, h)
+far_off (far p k) h = let q = h.1 in omega (arith, q)
+
+copies_are : {labels : ℕ} (more : ℕ) (p q : At) → FormFits (copy more p q) → labels < MOST_LABELS → (t : Bool) → nat_lt more MOST_PLAIN_WORDS ≡ t → CodeIs labels (if t then short_copy more p q else long_copy more p q) (form_bytes (copy more p q))
+copies_are {labels = labels} more p q h le true e =
+    let few = ltb-true _ _ e in
+    let source = far_off p h.1 in
+    let target = far_off q h.2 in
+    at_most _ (omega (arith, few)) (append_is (append_is (place_is p h.1) (place_is q h.2)) (cons (x.local_set 4 (omega arith)) (cons (x.local_set 3 (omega arith)) (moves_are (suc more) (displacement p) (displacement q) (omega (arith, few, source)) (omega (arith, few, target))))))
+copies_are {labels = labels} more p q h le false e =
+    at_most _ (omega arith) (append_is (append_is (byte_is p h.1) (byte_is q h.2)) (cons (x.local_set 4 (omega arith)) (cons (x.local_set 3 (omega arith)) (cons (x.i32_const (suc more) (let q = h.0 in omega (arith, q))) (cons (x.local_set 5 (omega arith)) (cons (loop_fits None le copy_is) (nil labels)))))))
 
 compare_is : {labels : ℕ} (o : Comparison) → InstrIs labels (compare_code o) 11
 compare_is comparison.Equal = x.i64_eq
@@ -155,7 +176,7 @@ mutual
   form_is (call f) labels ds h l le = cons (x.local_get 0 (omega arith)) (cons (x.i32_const (8 * FRAME) (omega arith)) (cons x.i32_add (cons (x.call (6 + f) (omega (arith, h))) (nil labels))))
   form_is (call_here f) labels ds h l le = cons (x.local_get 0 (omega arith)) (cons (x.call (6 + f) (omega (arith, h))) (nil labels))
   form_is (call_word w) labels ds h l le = at_most _ (omega arith) (cons (x.local_get 0 (omega arith)) (cons (x.i32_const (8 * FRAME) (omega arith)) (cons x.i32_add (append_is (word_is w labels ds h l le) (cons x.i32_wrap_i64 (cons (x.call_indirect 1 (omega arith)) (nil labels)))))))
-  form_is (copy more p q) labels ds h l le = at_most _ (omega arith) (append_is (append_is (byte_is p h.1) (byte_is q h.2)) (cons (x.local_set 4 (omega arith)) (cons (x.local_set 3 (omega arith)) (cons (x.i32_const (suc more) (let q = h.0 in omega (arith, q))) (cons (x.local_set 5 (omega arith)) (cons (loop_fits None (omega (arith, le)) copy_is) (nil labels)))))))
+  form_is (copy more p q) labels ds h l le = copies_are more p q h (omega (arith, le)) (nat_lt more MOST_PLAIN_WORDS) refl
   form_is (trap code place) labels ds h l le = cons (x.i32_const code h.0) (cons (x.i32_const place h.1) (cons (x.call 5 (omega arith)) (nil labels)))
 
   pub code_is : (c : Code) (labels : ℕ) (ds : Round) → CodeFits c → Labels ds labels → labels + depth c ≤ MOST_LABELS → CodeIs labels (forms_code c ds) (bytes c)

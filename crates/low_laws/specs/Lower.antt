@@ -1,5 +1,5 @@
 -- The module that a core becomes. The code of a word leaves it on the operand stack; that of a form leaves nothing.
-use Rattle.std.specs.Prelude.{ℕ, zero, suc, ◌+◌, ◌*◌, ℤ, List, [], ◌∷◌, ◌++◌, length, map, replicate, codes, Some, None}
+use Rattle.std.specs.Prelude.{ℕ, zero, suc, ◌+◌, ◌*◌, ℤ, List, [], ◌∷◌, ◌++◌, length, map, replicate, codes, Some, None, nat_lt, if◌then◌else◌}
 use Rattle.std.specs.Int.{w64, cast_unsigned}
 use Rattle.own_tree.specs.declared.arithmetic.Arith.{Arith}
 use Rattle.own_tree.specs.declared.arithmetic.Arith.TheVariants.{Neg, Add, Sub, Mul, Div, Rem}
@@ -19,7 +19,7 @@ use Rattle.wasm_form.specs.declared.types.ValueType.TheVariants as type
 use Rattle.low_arith.specs.Code.{checked_code}
 use Rattle.core_form.specs.CoreSource.{At, mine, next, common, far, Word, constant, load, local, address, arithmetic, negate, compare, pick, following, read_int, Form, store, store_local, print, Pieces, no_pieces, text_piece, int_piece, bool_piece, words_in, when, block, loop, jump, call, call_word, copy, trap, Code, nothing, form, Function, CoreProgram, wrap, call_here}
 use Rattle.low_arith.specs.declared.places.TheConstants.{TRAP}
-use Rattle.low_laws.specs.declared.places.TheConstants.{FROM, TO, LEFT, KEPT, LOCALS, WRITE_INT, WRITE_BOOL, WRITE_TEXT, READ_INT, OWN, FUNCTION, MAIN, PAGES}
+use Rattle.low_laws.specs.declared.places.TheConstants.{FROM, TO, LEFT, MOST_PLAIN_WORDS, KEPT, LOCALS, WRITE_INT, WRITE_BOOL, WRITE_TEXT, READ_INT, OWN, FUNCTION, MAIN, PAGES}
 use Rattle.core_form.specs.declared.limits.TheConstants.{FRAME, FRAMES, AREA, MOST_PRINTED}
 
 abbrev pub bits : ℤ → ℕ
@@ -56,6 +56,27 @@ copy_body =
     i.LocalGet FROM ∷ i.I32Const 8 ∷ i.I32Add ∷ i.LocalSet FROM ∷
     i.LocalGet TO ∷ i.I32Const 8 ∷ i.I32Add ∷ i.LocalSet TO ∷
     i.LocalGet LEFT ∷ i.I32Const 1 ∷ i.I32Sub ∷ i.LocalTee LEFT ∷ i.BrIf 0 ∷ []
+
+-- so many words go one after another, each from the one byte to the other, so many words after them
+abbrev pub moves_code : (count from to : ℕ) → List Instr
+moves_code zero from to = []
+moves_code (suc count) from to =
+    i.LocalGet TO ∷ i.LocalGet FROM ∷ i.I64Load (access from) ∷ i.I64Store (access to) ∷ moves_code count (suc from) (suc to)
+
+-- one word and so many more, without a loop
+abbrev pub short_copy : (more : ℕ) (from to : At) → List Instr
+short_copy more p q =
+    place_code p ++ place_code q
+    ++ i.LocalSet TO ∷ i.LocalSet FROM ∷ moves_code (suc more) (displacement p) (displacement q)
+
+-- and by a loop
+abbrev pub long_copy : (more : ℕ) (from to : At) → List Instr
+long_copy more p q =
+    byte_code p ++ byte_code q
+    ++ i.LocalSet TO ∷ i.LocalSet FROM ∷ i.I32Const (suc more) ∷ i.LocalSet LEFT ∷ i.Loop None copy_body ∷ []
+
+abbrev pub copy_code : (more : ℕ) (from to : At) → List Instr
+copy_code more p q = if nat_lt more MOST_PLAIN_WORDS then short_copy more p q else long_copy more p q
 
 -- ---- labels
 
@@ -139,9 +160,7 @@ abbrev mutual
   form_code (call_word w) round =
       i.LocalGet 0 ∷ i.I32Const (8 * FRAME) ∷ i.I32Add
       ∷ (word_code w round ++ i.I32WrapI64 ∷ i.CallIndirect FUNCTION ∷ [])
-  form_code (copy more p q) round =
-      byte_code p ++ byte_code q
-      ++ i.LocalSet TO ∷ i.LocalSet FROM ∷ i.I32Const (suc more) ∷ i.LocalSet LEFT ∷ i.Loop None copy_body ∷ []
+  form_code (copy more p q) round = copy_code more p q
   form_code (trap code at) round = i.I32Const code ∷ i.I32Const at ∷ i.Call TRAP ∷ []
 
   pub forms_code : Code → Round → List Instr

@@ -7,6 +7,8 @@ pub const FROM: u32 = 3;
 pub const TO: u32 = 4;
 /// The local of how many words a copy still has to do, an i32.
 pub const LEFT: u32 = 5;
+/// The most words that a copy moves one after another. More are moved by a loop.
+pub const MOST_PLAIN_WORDS: u32 = 4;
 /// The first of the locals that keep the words of a print.
 pub const KEPT: u32 = 6;
 /// The first of the locals that are the local words of the core.

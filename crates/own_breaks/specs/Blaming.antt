@@ -35,7 +35,8 @@ module _ (nodes : List Node) (pairs : List Maker) (facts : List (List Bool)) whe
   -- a maker of leaf number l that breaks the rule reaches node u, and this is its span
   abbrev pub IsCause : Rule → ℕ → ℕ → Span → Type 0
   IsCause r u l cause =
-      (p : ℕ) × (q : Maker) × (slice_get pairs p ≡ Some q) × (q.leaf ≡ l) × IsTrue (reaches facts u p) × (cause_of nodes r q ≡ Some cause)
+      (p : ℕ) × (q : Maker) × (slice_get pairs p ≡ Some q) × (q.leaf ≡ l) × IsTrue (reaches facts u p)
+      × (cause_of nodes r q ≡ Some cause)
 
   module _ (leaves : List Place) (discards : Bool) (mode_of : ℕ → Option Mode) (is_let_property : Place → Bool) where
     -- the op of node u breaks the rule of the finding, at its span and its place and with its cause
@@ -65,7 +66,8 @@ module _ (nodes : List Node) (pairs : List Maker) (facts : List (List Bool)) whe
     BreaksSomewhere f = (u : ℕ) × (n : Node) × (slice_get nodes u ≡ Some n) × BreaksAt u n f
 
 -- the graph, the makers and the facts of a body
-pub record AreOfBody (uses : BodyUses) (nodes : List Node) (entry : ℕ) (pairs : List Maker) (facts : List (List Bool)) : Type 0 where
+pub record AreOfBody (uses : BodyUses) (nodes : List Node) (entry : ℕ) (pairs : List Maker)
+    (facts : List (List Bool)) : Type 0 where
   pub graph : IsGraphOf 0 nodes (tree_of uses) entry
   pub makers : AreMakers uses nodes entry pairs
   pub has : (u p : ℕ) → IsTrue (reaches facts u p) ↔ Reaches pairs (length uses.leaves) nodes entry u p

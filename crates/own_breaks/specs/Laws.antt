@@ -39,7 +39,8 @@ FactsAreByMakers =
     → AreOfBody uses nodes entry pairs facts → pairs ≡ pairs_of uses nodes entry
     → (v l : ℕ) (leaf : Place) (live : Bool) → slice_get uses.leaves l ≡ Some leaf
     → MayBeAt uses nodes entry v leaf live
-    ↔ ((p : ℕ) × (q : Maker) × (slice_get pairs p ≡ Some q) × (q.leaf ≡ l) × IsTrue (reaches facts v p) × (q.live ≡ live))
+    ↔ ((p : ℕ) × (q : Maker) × (slice_get pairs p ≡ Some q) × (q.leaf ≡ l) × IsTrue (reaches facts v p)
+    × (q.live ≡ live))
 
 -- a leaf may be live before an op, or not, exactly where it may be so before a node of that op
 abbrev pub FactsAreAtNodes : Type 0

@@ -47,7 +47,8 @@ IsSameQuestion f g = IsSameBreak (question f) (question g)
 abbrev pub question_cmp : Finding → Finding → Ordering
 question_cmp f g =
     ordering_then (span_cmp f.span g.span)
-    (ordering_then (nat_cmp (rule_number f.rule) (rule_number g.rule)) (place_cmp (asked_place f.rule f.place) (asked_place g.rule g.place)))
+    (ordering_then (nat_cmp (rule_number f.rule) (rule_number g.rule))
+    (place_cmp (asked_place f.rule f.place) (asked_place g.rule g.place)))
 
 -- of one question the one with the cause of least position, and among equals the first place
 abbrev pub IsNoWorse : Finding → Finding → Type 0

@@ -1,0 +1,10 @@
+pub mod Leasts
+pub mod LeastCauses
+pub mod Offers
+pub mod Growing
+pub mod ByLeaf
+pub mod Sorting
+pub mod Falling
+pub mod Flows
+pub mod Whole
+pub mod Lets
