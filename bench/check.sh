@@ -44,7 +44,7 @@ growth "500 to 1000" "${ours[0]}" "${ours[1]}"
 growth "1000 to 2000" "${ours[1]}" "${ours[2]}"
 
 # Those that are refused are so by the limit on slots, and with a line for each finding.
-for most in text:0 body:0 bodies:0 locals:1 findings:1; do
+for most in text:0 body:0 bodies:0 module:0 locals:1 findings:1; do
     name=${most%:*}
     python3 "$make" --most "$name" >"$name.swift"
     row "most $name" "$name.swift" "${most#*:}" "$program" check "$name.swift"
