@@ -3,7 +3,7 @@
 # from one size to the next, and on texts at what the limits allow (bench/make_program.py). Each figure is the least of
 # three runs, by the clock and of the processor, with the most memory. Where `rustc` is installed, it takes the same
 # programs in Rust as far as its metadata, which is what its own ownership checker needs.
-# Usage: bench/check.sh PROGRAM
+# Usage: bench/check.sh PROGRAM      as crates/swiftown/out/swiftown
 set -eu
 top=$(cd "$(dirname "$0")/.." && pwd)
 if [ $# != 1 ] || ! program=$(realpath -e "$1"); then
