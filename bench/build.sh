@@ -4,11 +4,12 @@
 # least of three runs, by the clock and of the processor, with the most memory. Beside it stand the bytes of the module,
 # in all and for each line of the source that is not empty and no comment, and whether wabt's `wasm-validate` or, where
 # that is missing, `node` takes the module, if one of them is installed.
-# Usage: bench/build.sh PROGRAM
+# Usage: bench/build.sh PROGRAM           the list below
+#        bench/build.sh PROGRAM module    the text whose module is longest; building it may take gigabytes of memory
 set -eu
 top=$(cd "$(dirname "$0")/.." && pwd)
-if [ $# != 1 ] || ! program=$(realpath -e "$1"); then
-    echo "usage: bench/build.sh PROGRAM" >&2
+if [ $# -lt 1 ] || [ $# -gt 2 ] || [ "${2:-module}" != module ] || ! program=$(realpath -e "$1"); then
+    echo "usage: bench/build.sh PROGRAM [module]" >&2
     exit 2
 fi
 make="$top/bench/make_program.py"
@@ -47,6 +48,11 @@ growth() {
         'BEGIN { if (one > 0 && two > 0) printf "growth from %s: exponent %.2f\n", name, log(two / one) / log(2) }'
 }
 
+if [ $# = 2 ]; then
+    python3 "$make" --most module >module.swift
+    row "most module" module.swift
+    exit 0
+fi
 times=()
 for size in 500 1000 2000; do
     python3 "$make" "$size" 1 >"$size.swift"

@@ -3,7 +3,7 @@
 # from one size to the next, and on texts at what the limits allow (bench/make_program.py). Each figure is the least of
 # three runs, by the clock and of the processor, with the most memory. Where `rustc` is installed, it takes the same
 # programs in Rust as far as its metadata, which is what its own ownership checker needs.
-# Usage: bench/check.sh PROGRAM
+# Usage: bench/check.sh PROGRAM      as crates/swiftown/out/swiftown
 set -eu
 top=$(cd "$(dirname "$0")/.." && pwd)
 if [ $# != 1 ] || ! program=$(realpath -e "$1"); then
@@ -44,7 +44,7 @@ growth "500 to 1000" "${ours[0]}" "${ours[1]}"
 growth "1000 to 2000" "${ours[1]}" "${ours[2]}"
 
 # Those that are refused are so by the limit on slots, and with a line for each finding.
-for most in text:0 body:0 bodies:0 locals:1 findings:1; do
+for most in text:0 body:0 bodies:0 module:0 locals:1 findings:1; do
     name=${most%:*}
     python3 "$make" --most "$name" >"$name.swift"
     row "most $name" "$name.swift" "${most#*:}" "$program" check "$name.swift"

@@ -8,9 +8,10 @@ With --most it is a text at what the language's limits allow:
   locals    a body of 20,000 locals, which is too many
   bodies    4,000 bodies and 1,000 types
   findings  20,000 findings at the end of 1,048,576 bytes, each with up to a hundred causes to choose from
+  module    the most code: values of 64 parts, each with a `deinit`, and many ways out, on each of which all end
 
 Usage: make_program.py FUNCTIONS SEED [--rust]
-       make_program.py --most text|body|locals|bodies|findings
+       make_program.py --most text|body|locals|bodies|findings|module
 """
 
 import random
@@ -482,9 +483,24 @@ def most_findings():
     return comments(BYTES - len(text)) + text
 
 
+def most_module():
+    parts = SLOTS_OF_TYPE
+    fields = "".join(f"  var f{i}: Part\n" for i in range(parts))
+    values = ", ".join(f"f{i}: Part()" for i in range(parts))
+    text = f"struct Part: ~Copyable {{\n  deinit {{ }}\n}}\nstruct Whole: ~Copyable {{\n{fields}}}\n"
+    text += f"func make() -> Whole {{ Whole({values}) }}\n"
+    # the parts and the parameter have a maker where they are made, and one on each way out
+    ways = MAKERS // (parts + 1) - 1
+    body = "  let whole = make()\n" + "  if c { return }\n" * (ways - 1)
+    main = "func main() {\n  work0(true)\n}\nmain()\n"
+    left = TOKENS - tokens(text + main)
+    count = left // tokens(f"func work0(_ c: Bool) {{\n{body}}}\n")
+    return text + "".join(f"func work{i}(_ c: Bool) {{\n{body}}}\n" for i in range(count)) + main
+
+
 if __name__ == "__main__":
     match sys.argv[1:]:
-        case ["--most", ("text" | "body" | "locals" | "bodies" | "findings") as kind]:
+        case ["--most", ("text" | "body" | "locals" | "bodies" | "findings" | "module") as kind]:
             sys.stdout.write(globals()[f"most_{kind}"]())
         case [functions, seed, *rest] if rest in ([], ["--rust"]):
             sys.stdout.write(program(int(functions), int(seed), bool(rest)))

@@ -3,7 +3,7 @@
 # call and takes one back (bench/loop.swift): by the clock and of the processor, the least of three runs, with the most
 # memory. Beside it stand the same program in Python (bench/loop.py) and, where `node` is installed, the module that
 # `build` makes, on node by examples/host.js.
-# Usage: bench/run.sh PROGRAM [TURNS]
+# Usage: bench/run.sh PROGRAM [TURNS]      with PROGRAM as crates/swiftown/out/swiftown
 set -eu
 top=$(cd "$(dirname "$0")/.." && pwd)
 if [ $# -lt 1 ] || ! program=$(realpath -e "$1"); then
