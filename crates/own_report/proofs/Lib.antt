@@ -1,1 +1,5 @@
 pub mod PlaceSteps
+pub mod Passing
+pub mod Known
+pub mod Undeclared
+pub mod Ways

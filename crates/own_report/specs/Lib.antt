@@ -1,2 +1,9 @@
 pub mod Place
 pub mod Lines
+pub mod Lexing
+pub mod Limits
+pub mod Typing
+pub mod Rules
+pub mod RuleTexts
+pub mod Refusals
+pub mod Findings

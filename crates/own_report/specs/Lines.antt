@@ -14,3 +14,17 @@ place_pair place = decimal place.line ++ codes ":" ++ decimal place.column
 -- a place after what a line says already
 abbrev pub place_after : List ℕ → LineColumn → List ℕ
 place_after said place = said ++ codes ":" ++ decimal place.line ++ codes ":" ++ decimal place.column
+
+-- ---- lines of refusals and findings
+
+-- a code and what is said beside it
+pub record Said : Type 0 where
+  pub code : List ℕ
+  pub text : List ℕ
+
+abbrev pub said_as : (code text : List ℕ) → Said
+said_as code text = record { code = code; text = text }
+
+-- the beginning of a line that speaks of a place of a file
+abbrev pub head_at : (file : List ℕ) → LineColumn → (code : List ℕ) → List ℕ
+head_at file place code = file ++ codes ":" ++ place_pair place ++ codes ": error[" ++ code ++ codes "]: "

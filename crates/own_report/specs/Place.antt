@@ -1,6 +1,7 @@
 -- Lines and columns, both from 1.
-use Rattle.std.specs.Prelude.{ℕ, zero, suc, ◌+◌, ◌==◌, nat_le, ◌&&◌, if◌then◌else◌, List, [], ◌∷◌, Option, Some, None}
+use Rattle.std.specs.Prelude.{◌≡◌, ℕ, zero, suc, ◌+◌, ◌*◌, ◌==◌, nat_le, ◌&&◌, if◌then◌else◌, List, [], ◌∷◌, Option, Some, None, slice_get}
 use Rattle.own_report.specs.declared.place.LineColumn.{LineColumn}
+use Rattle.own_report.specs.declared.places.TheConstants.{STRIDE}
 
 abbrev pub next_line : LineColumn → LineColumn
 next_line place = record { line = place.line + 1; column = 1 }
@@ -33,3 +34,7 @@ place_from place (byte ∷ bytes) (suc n) = place_from (place_after place byte (
 
 unfoldable pub place_at : List ℕ → ℕ → LineColumn
 place_at text offset = place_from (record { line = 1; column = 1 }) text offset
+
+-- the places of every so many bytes
+abbrev pub AreKnown : List ℕ → List LineColumn → Type 0
+AreKnown text known = (k : ℕ) (place : LineColumn) → slice_get known k ≡ Some place → place ≡ place_at text (k * STRIDE)

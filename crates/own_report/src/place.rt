@@ -1,11 +1,25 @@
 ghost use Rattle.std.specs.Prelude.{◌≡◌, ◌+◌, ◌≤◌, ◌<◌, length, slice_get};
 ghost use Rattle.own_report.specs.Place.{place_at, place_after};
 
+use std::fmt;
+
 /// A line and a column, both from 1.
 #[derive(Clone, Copy, Debug, PartialEq, Eq)]
 pub struct LineColumn {
     pub line: u32,
     pub column: u32,
+}
+
+impl fmt::Display for LineColumn {
+    ghost use Rattle.std.specs.Prelude.{Some};
+    ghost use Rattle.own_report.specs.Lines.{place_pair};
+
+    ghost output = { λ place. Some (place_pair place) };
+
+    fn fmt<W: fmt::Write>(&self, f: &mut fmt::Formatter<W>) -> fmt::Result {
+        let LineColumn { line, column } = *self;
+        write!(f, "{line}:{column}")
+    }
 }
 
 /// The line and the column of an offset in bytes from 0.
@@ -37,7 +51,7 @@ pub fn place_in(text: &[u8], at: u32) -> LineColumn
 }
 
 /// The byte at an index, if there is one.
-fn byte_at(text: &[u8], index: usize) -> Option<u8>
+pub(crate) fn byte_at(text: &[u8], index: usize) -> Option<u8>
     ensures { result ≡ slice_get text.now index }
 {
     text.get(index).copied()
@@ -45,7 +59,7 @@ fn byte_at(text: &[u8], index: usize) -> Option<u8>
 
 /// The place after a byte, before which another or none stands.
 #[tactic(auto, unfolding(crate::specs::Place::place_after))]
-fn passed(place: LineColumn, byte: u8, next: Option<u8>) -> LineColumn
+pub(crate) fn passed(place: LineColumn, byte: u8, next: Option<u8>) -> LineColumn
     requires line { place.line < 4294967295 }
     requires column { place.column < 4294967295 }
     ensures after { result ≡ place_after place byte next }
