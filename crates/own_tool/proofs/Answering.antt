@@ -41,6 +41,14 @@ module _ (means : Meaning) (never : (gained said : List ℕ) → means status.Wr
       → Said answer line result err err' faults_of_err → IsAnswered means faults_of_out faults_of_err out out err err' result
   said_alone answer line out err err' result nothing h s = answered answer [] line out out err err' result h (sym nothing) s
 
+  -- an answer whose line is the whole output, whole or cut short
+  pub put_out : (answer : Status) (line : List ℕ) (out out' err : outside.Told) (result : Status) → told_after err [] ≡ err → means answer line []
+      → Said answer line result out out' faults_of_out → IsAnswered means faults_of_out faults_of_err out out' err err result
+  put_out answer line out out' err result nothing h (inl s) =
+      (line, [], s.1, sym nothing, let P : Status → Type 0 = λ r. WholeOrCut means faults_of_out faults_of_err r line [] in subst P (sym s.0) (whole answer line [] h))
+  put_out answer line out out' err result nothing h (inr s) =
+      (s.2, [], s.4, sym nothing, let P : Status → Type 0 = λ r. WholeOrCut means faults_of_out faults_of_err r s.2 [] in subst P (sym s.0) (answer, line, [], h, inl (s.1, s.3, refl)))
+
   -- after a fault of the output nothing is said
   pub cut_off : (answer : Status) (wanted gained line : List ℕ) (out out' err err' : outside.Told) (result : Status) → means answer wanted line
       → faults_of_out → IsProperPrefix gained wanted → out' ≡ told_after out gained → Said status.WriteFault [] result err err' faults_of_err

@@ -10,6 +10,7 @@ use Rattle.own_words.specs.Words.{Words}
 use Rattle.own_tool.specs.Texts.{usage_line, memory_line}
 use Rattle.own_tool.specs.Headline.{Told, FileAnswers, IsUsage, Meaning, IsAnswered}
 use Rattle.own_tool.specs.Saying.{Said}
+use Rattle.own_tool.specs.Check.{CheckAnswers}
 use Rattle.own_tool.specs.Exec.{ExecAnswers}
 use Rattle.own_tool.specs.Commands.{Answers, CommandAnswers, RunAnswers, IsNoCommand, is_file_alone, is_served}
 use Rattle.own_tool.proofs.Answering.{widened, said_alone}
@@ -25,7 +26,7 @@ module _ (folder : Told) (failed : Type 0) where
   run_never file false gained said h = never_usage gained said h
 
   pub command_never : (c : Command) (gained said : List ℕ) → CommandAnswers folder failed c status.WriteFault gained said → ⊥
-  command_never (command.Check file) gained said h = never_usage gained said h
+  command_never (command.Check file) gained said h = h
   command_never (command.Build file out trace) gained said h = never_usage gained said h
   command_never (command.Run file out steps trace input) gained said h = run_never file (is_file_alone out steps trace input) gained said h
   command_never (command.Exec file steps input) gained said h = h
@@ -42,7 +43,7 @@ module _ (folder : Told) (failed : Type 0) where
   said_usage = record { status_is = refl; gained_is = refl; said_is = refl }
 
   usage_meant : (c : Command) → is_served c ≡ false → CommandAnswers folder failed c status.Usage [] usage_line
-  usage_meant (command.Check file) unserved = said_usage
+  usage_meant (command.Check file) unserved = let e : true ≡ false = unserved in absurd (cc)
   usage_meant (command.Build file out trace) unserved = said_usage
   usage_meant (command.Run file out steps trace input) unserved = subst (λ b. RunAnswers folder failed file b status.Usage [] usage_line) (sym unserved) said_usage
   usage_meant (command.Exec file steps input) unserved = let e : true ≡ false = unserved in absurd (cc)
@@ -78,6 +79,13 @@ module _ (folder : Told) (failed : Type 0) where
         subst (λ d. Concludes (CommandAnswers folder failed d)) (sym is)
         (widened (FileAnswers folder failed name) (CommandAnswers folder failed (command.Run file saved steps trace input)) faults_of_out faults_of_err out out' err err' result
         (λ answer gained said h. subst (λ b. RunAnswers folder failed file b answer gained said) (sym served) (subst (λ n. FileAnswers folder failed n answer gained said) same h)) a)
+
+    pub check_obeyed : (c : Command) (name file : List ℕ) → c ≡ command.Check file → name ≡ file
+        → Concludes (CheckAnswers folder failed name) → Concludes (CommandAnswers folder failed c)
+    check_obeyed c name file is same a =
+        subst (λ d. Concludes (CommandAnswers folder failed d)) (sym is)
+        (widened (CheckAnswers folder failed name) (CommandAnswers folder failed (command.Check file)) faults_of_out faults_of_err out out' err err' result
+        (λ answer gained said h. subst (λ n. CheckAnswers folder failed n answer gained said) same h) a)
 
     pub exec_obeyed : (c : Command) (name file : List ℕ) (steps : ℕ) (input : List ℤ) → c ≡ command.Exec file steps input → name ≡ file
         → Concludes (ExecAnswers folder failed name steps input) → Concludes (CommandAnswers folder failed c)

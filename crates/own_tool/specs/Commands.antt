@@ -7,6 +7,7 @@ use Rattle.own_tree.specs.declared.status.Status.TheVariants as status
 use Rattle.own_words.specs.Words.{Words}
 use Rattle.own_tool.specs.Texts.{memory_line}
 use Rattle.own_tool.specs.Headline.{DEFAULT_STEPS, Told, Meaning, FileAnswers, IsUsage}
+use Rattle.own_tool.specs.Check.{CheckAnswers}
 use Rattle.own_tool.specs.Exec.{ExecAnswers, HoldsModule, IsRunOrMemory}
 use Rattle.wasm_form.specs.declared.module.Module.{Module}
 
@@ -17,6 +18,7 @@ is_file_alone out steps trace input = false
 
 -- which commands are served so far
 abbrev pub is_served : Command → Bool
+is_served (command.Check file) = true
 is_served (command.Run file out steps trace input) = is_file_alone out steps trace input
 is_served (command.Exec file steps input) = true
 is_served other = false
@@ -27,6 +29,7 @@ RunAnswers folder faults file false answer gained said = IsUsage answer gained s
 
 -- a command that is not served yet is answered as words that are none
 abbrev pub CommandAnswers : Told → (faults : Type 0) → Command → Meaning
+CommandAnswers folder faults (command.Check file) answer gained said = CheckAnswers folder faults file answer gained said
 CommandAnswers folder faults (command.Run file out steps trace input) answer gained said =
     RunAnswers folder faults file (is_file_alone out steps trace input) answer gained said
 CommandAnswers folder faults (command.Exec file steps input) answer gained said =

@@ -2,6 +2,8 @@ pub mod Texts
 pub mod Headline
 pub mod Saying
 pub mod Judged
+pub mod Check
+pub mod Declined
 pub mod Exec
 pub mod Executed
 pub mod Commands

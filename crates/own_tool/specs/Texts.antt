@@ -19,6 +19,10 @@ memory_line = line_of (codes "out of memory")
 abbrev pub steps_line : List ℕ
 steps_line = line_of (codes "out of steps")
 
+-- what `check` writes where a text is accepted
+abbrev pub accepted_line : List ℕ
+accepted_line = line_of (codes "accepted")
+
 abbrev pub read_line : List ℕ → List ℕ
 read_line file = codes "cannot read " ++ file ++ line_of []
 

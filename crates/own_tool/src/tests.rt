@@ -125,6 +125,113 @@ fn each_status_has_its_texts(rt: HostRuntime) -> Result<(), Fail> {
     Ok(())
 }
 
+const CHECK: &[&str] = &["check", "a.swift"];
+
+#[test]
+fn check_accepts_a_text_or_says_why_not(rt: HostRuntime) -> Result<(), Fail> {
+    let cases = [
+        Case {
+            text: Some(
+                b"struct A: ~Copyable {\n  var n: Int\n  deinit { print(\"end\", n) }\n}\nfunc take(_ a: consuming A) {}\nfunc main() {\n  let x = A(n: readInt())\n  take(x)\n}\nmain()\n",
+            ),
+            words: CHECK,
+            status: Status::Done,
+            out: "accepted\n",
+            err: "",
+        },
+        Case {
+            text: Some(
+                b"struct A: ~Copyable {\n  var n: Int\n  deinit { print(\"end\", n) }\n}\nfunc take(_ a: consuming A) {}\nfunc main() {\n  let x = A(n: 1)\n  take(x)\n  take(x)\n  print(x.n)\n}\nmain()\n",
+            ),
+            words: CHECK,
+            status: Status::Refused,
+            out: "",
+            err: "a.swift:9:8: error[O1]: 'x' is used after it was consumed at 8:8\na.swift:10:9: error[O1]: 'x.n' is used after it was consumed at 9:8\n",
+        },
+        Case {
+            text: Some(b"func main() {\n  print(y)\n}\nmain()\n"),
+            words: CHECK,
+            status: Status::Refused,
+            out: "",
+            err: "a.swift:2:9: error[T10]: unknown name\n",
+        },
+        Case {
+            text: Some(b""),
+            words: CHECK,
+            status: Status::Refused,
+            out: "",
+            err: "a.swift:1:1: error[S1]: syntax\n",
+        },
+        Case {
+            text: None,
+            words: CHECK,
+            status: Status::ReadFault,
+            out: "",
+            err: "cannot read a.swift\n",
+        },
+    ];
+    for case in &cases {
+        answers(&rt, case, NONE)?;
+    }
+    Ok(())
+}
+
+/// Each call of the folder and of the two sinks that `check` makes, failing in turn.
+#[test]
+fn faults_of_check_are_told(rt: HostRuntime) -> Result<(), Fail> {
+    let accepted = Case {
+        text: Some(b"func main() {}\nmain()\n"),
+        words: CHECK,
+        status: Status::Done,
+        out: "accepted\n",
+        err: "",
+    };
+    let refused = Case {
+        text: Some(b"func main() {"),
+        words: CHECK,
+        status: Status::Refused,
+        out: "",
+        err: "a.swift:1:14: error[S1]: syntax\n",
+    };
+    let unread = Case {
+        status: Status::ReadFault,
+        out: "",
+        err: "cannot read a.swift\n",
+        ..accepted
+    };
+    let unwritten = Case {
+        status: Status::WriteFault,
+        out: "",
+        err: "",
+        ..accepted
+    };
+    let unsaid = Case {
+        text: refused.text,
+        ..unwritten
+    };
+    answers(&rt, &unread, Faults { folder: 1, ..NONE })?;
+    answers(&rt, &unwritten, Faults { out: 1, ..NONE })?;
+    answers(
+        &rt,
+        &accepted,
+        Faults {
+            folder: 2,
+            out: 2,
+            err: 1,
+        },
+    )?;
+    answers(&rt, &unsaid, Faults { err: 1, ..NONE })?;
+    answers(
+        &rt,
+        &refused,
+        Faults {
+            folder: 2,
+            out: 1,
+            err: 2,
+        },
+    )
+}
+
 #[test]
 fn each_use_of_a_consumed_name_is_named(rt: HostRuntime) -> Result<(), Fail> {
     let cases = [
@@ -242,21 +349,20 @@ fn blank_text(alloc: std::alloc::Global, size: usize) -> Result<Vec<u8>, AllocEr
 #[test]
 fn a_text_has_at_most_1048576_bytes(rt: HostRuntime) -> Result<(), Fail> {
     let alloc = rt.alloc();
+    let too_long = "a.swift: error[M1]: text bytes: more than 1048576\n";
     let cases = [
-        (MOST_TEXT_BYTES, Status::Done, ""),
-        (
-            MOST_TEXT_BYTES + 1,
-            Status::Refused,
-            "a.swift: error[M1]: text bytes: more than 1048576\n",
-        ),
+        ("run", MOST_TEXT_BYTES, Status::Done, "", ""),
+        ("run", MOST_TEXT_BYTES + 1, Status::Refused, "", too_long),
+        ("check", MOST_TEXT_BYTES, Status::Done, "accepted\n", ""),
+        ("check", MOST_TEXT_BYTES + 1, Status::Refused, "", too_long),
     ];
-    for (size, status, said) in cases {
+    for (command, size, status, written, said) in cases {
         let text = blank_text(alloc, size)?;
         assert_eq!(rt; text.len(), size);
         let mut folder = MemoryFolder::new(alloc, Row::new(alloc));
         folder.put("a.swift", text.as_slice())?;
         let words = vec![in alloc;
-            String::from_str(alloc, "run")?,
+            String::from_str(alloc, command)?,
             String::from_str(alloc, "a.swift")?,
         ]?;
         let mut out = MemorySink::new(alloc, 64, Row::new(alloc))?;
@@ -264,7 +370,7 @@ fn a_text_has_at_most_1048576_bytes(rt: HostRuntime) -> Result<(), Fail> {
         let answer = swiftown(alloc, words.as_slice(), &mut folder, &mut out, &mut err);
         assert_eq!(rt; answer, status);
         assert_eq!(rt; err.written(), said.as_bytes());
-        assert!(rt; out.written().is_empty());
+        assert_eq!(rt; out.written(), written.as_bytes());
     }
     Ok(())
 }
@@ -443,11 +549,10 @@ fn other_words_are_answered_by_the_usage(rt: HostRuntime) -> Result<(), Fail> {
         out: 1,
         err: 0,
     };
-    let words: [&'static [&'static str]; 7] = [
+    let words: [&'static [&'static str]; 6] = [
         &["exec"],
         &["exec", "m.wasm", "--step", "1"],
         &["exec", "m.wasm", "-1"],
-        &["check", "m.wasm"],
         &["build", "m.wasm", "-o", "n.wasm"],
         &["run", "m.wasm", "--steps", "1"],
         &["selftest", "1", "1"],

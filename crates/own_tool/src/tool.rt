@@ -11,6 +11,7 @@ ghost use Rattle.own_second.specs.SecondForm.{IsSecondForm};
 ghost use Rattle.own_tree.specs.View.{tree_view};
 ghost use Rattle.own_meaning.specs.Findings.{IsSound};
 
+use crate::check::check_file;
 use crate::exec::{exec_file, run_module};
 use crate::judged::{Ending, Judged};
 use crate::saying::{MEMORY_LINE, USAGE_LINE, bytes_of, say};
@@ -283,7 +284,7 @@ fn obey<F: Folder, K: Sink, E: Sink>(
             out,
             err,
         ),
-        Command::Check(_) => say(err, USAGE_LINE, Status::Usage),
+        Command::Check(file) => check_file(alloc, name_of(file), folder, out, err),
         Command::Build { .. } => say(err, USAGE_LINE, Status::Usage),
         Command::Selftest { .. } => say(err, USAGE_LINE, Status::Usage),
     }
@@ -291,11 +292,12 @@ fn obey<F: Folder, K: Sink, E: Sink>(
 
 /// Does what the words of the command line say.
 ///
-/// `run FILE` runs the text that the folder holds under FILE: it is run where it has at most 1,048,576 bytes, is in
-/// the second form and breaks no rule of ownership; each other one is refused, by `not built yet` or by the lines of
-/// its findings. `exec FILE [--steps N] [INT..]` makes at most N steps of the module that the folder holds under FILE,
-/// with these numbers as its input. Output goes to `out`, and what is said of the call to `err`. Other commands are not
-/// served yet, and are answered as words that are none.
+/// `check FILE` checks the text that the folder holds under FILE: it writes `accepted` where the text is accepted, and
+/// else says why it is not. `run FILE` runs the text that the folder holds under FILE: it is run where it has at most
+/// 1,048,576 bytes, is in the second form and breaks no rule of ownership; each other one is refused, by
+/// `not built yet` or by the lines of its findings. `exec FILE [--steps N] [INT..]` makes at most N steps of the module
+/// that the folder holds under FILE, with these numbers as its input. Output goes to `out`, and what is said of the call
+/// to `err`. Other commands are not served yet, and are answered as words that are none.
 pub fn swiftown<F: Folder, K: Sink, E: Sink>(
     alloc: Global,
     words: &[String],

@@ -1,7 +1,7 @@
 use Rattle.std.proofs.Common.{◌≡◌, ◌∙◌, true, false, ap, sym, subst}
 use Rattle.own_io.specs.Outside.{HasRisen}
 use Rattle.own_tool.specs.Commands.{is_file_alone, is_served}
-use Rattle.own_tool.proofs.Obeying.{run_obeyed, exec_obeyed, usage_obeyed}
+use Rattle.own_tool.proofs.Obeying.{run_obeyed, check_obeyed, exec_obeyed, usage_obeyed}
 use Rattle.own_tool.proofs.tool.obey.Goals as goal
 
 pub returns-then-is_file_alone-clause-answer : goal.returns-then-is_file_alone-clause-answer
@@ -29,10 +29,10 @@ returns-in-Exec-clause-answer g c =
 
 pub returns-in-Check-clause-answer : goal.returns-in-Check-clause-answer
 returns-in-Check-clause-answer g c =
-    usage_obeyed (record { tells = g.F.Folder.tells c.args.folder.now; held = g.F.Folder.held c.args.folder.now }) (HasRisen (g.F.Folder.faults c.args.folder.now) (g.F.Folder.faults c.args.folder.now))
-    (HasRisen (g.K.Sink.faults c.args.out.now) (g.K.Sink.faults c.args.out.now)) (HasRisen (g.E.Sink.faults c.args.err.now) (g.E.Sink.faults c.say-in-Check.new.err))
-    (g.K.Sink.written c.args.out.now) (g.E.Sink.written c.args.err.now) (g.E.Sink.written c.say-in-Check.new.err) c.say-in-Check.result (g.met.K.Sink.nothing c.args.out.now)
-    c.args.command.now (ap is_served c.in-Check.is) c.say-in-Check.ensures.said
+    check_obeyed (record { tells = g.F.Folder.tells c.args.folder.now; held = g.F.Folder.held c.args.folder.now }) (HasRisen (g.F.Folder.faults c.args.folder.now) (g.F.Folder.faults c.check_file.new.folder))
+    (HasRisen (g.K.Sink.faults c.args.out.now) (g.K.Sink.faults c.check_file.new.out)) (HasRisen (g.E.Sink.faults c.args.err.now) (g.E.Sink.faults c.check_file.new.err))
+    (g.K.Sink.written c.args.out.now) (g.K.Sink.written c.check_file.new.out) (g.E.Sink.written c.args.err.now) (g.E.Sink.written c.check_file.new.err) c.check_file.result
+    c.args.command.now c.name_of-in-Check.result.now c.in-Check.file c.in-Check.is c.name_of-in-Check.ensures c.check_file.ensures.answer
 
 pub returns-in-Build-clause-answer : goal.returns-in-Build-clause-answer
 returns-in-Build-clause-answer g c =
