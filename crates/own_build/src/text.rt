@@ -23,6 +23,12 @@ impl Checked {
     pub fn table(&self) -> &TypeTable {
         &self.table
     }
+
+    /// Both.
+    pub(crate) fn into_parts(self) -> (Typed, TypeTable) {
+        let Checked { typed, table } = self;
+        (typed, table)
+    }
 }
 
 /// Why a text is not accepted.
