@@ -6,18 +6,16 @@ use Rattle.own_tree.specs.declared.finding.Finding.{Finding}
 use Rattle.own_tree.specs.declared.refusal.Refusal.{Refusal}
 use Rattle.own_tree.specs.declared.status.Status.{Status}
 use Rattle.own_tree.specs.declared.status.Status.TheVariants as status
-use Rattle.own_io.specs.Outside as outside
-use Rattle.own_io.specs.Outside.{told_after}
 use Rattle.own_tree.specs.TypedSource.{Program}
 use Rattle.own_shapes.specs.Types.{Types}
 use Rattle.own_report.specs.Refusals.{refusal_line}
 use Rattle.own_report.specs.Findings.{finding_lines}
-use Rattle.own_tool.specs.declared.check.Declined.{Declined}
-use Rattle.own_tool.specs.declared.check.Declined.TheVariants as declined
-use Rattle.own_tool.specs.Texts.{memory_line, accepted_line, read_line, too_long_line}
+use Rattle.own_io.specs.Outside as outside
+use Rattle.own_io.specs.Outside.{told_after}
+use Rattle.own_tool.specs.Texts.{accepted_line}
 use Rattle.own_tool.specs.Headline.{Told, IsAnswered}
 use Rattle.own_tool.specs.Check.{AreRefusals, IsText, CheckAnswers}
-use Rattle.own_tool.specs.Declined.{status_of, line_of, IsDeclined, IsDeclinedSo}
+use Rattle.own_tool.specs.Declined.{DeclinedAnswers}
 use Rattle.own_tool.specs.Saying.{Said}
 use Rattle.own_tool.proofs.Answering as answering
 
@@ -33,28 +31,21 @@ pub found_said : (file text : List ℕ) (types : Types) (program : Program) (fin
 found_said file text types program findings (Ok lines) short h = inr (types, program, findings, h (omega (arith, short)))
 found_said file text types program findings (Err e) short h = tt
 
-module _ (folder : Told) (failed : Type 0) (file : List ℕ) (faults_of_out faults_of_err : Type 0) where
+module _ (folder : Told) (failed : Type 0) (file : List ℕ) where
   -- a text that is accepted
-  pub accepted_said : (text : List ℕ) (out out' err : outside.Told) (result : Status) → told_after err [] ≡ err → IsText folder file text
+  pub accepted_said : (faults_of_out faults_of_err : Type 0) (text : List ℕ) (out out' err : outside.Told) (result : Status) → told_after err [] ≡ err → IsText folder file text
       → Said status.Done accepted_line result out out' faults_of_out → IsAnswered (CheckAnswers folder failed file) faults_of_out faults_of_err out out' err err result
-  accepted_said text out out' err result nothing is s =
-      answering.put_out (CheckAnswers folder failed file) (λ gained said h. h) faults_of_out faults_of_err status.Done accepted_line out out' err result nothing ((text, is), refl, refl) s
+  accepted_said faults_of_out faults_of_err text out out' err result nothing is s =
+      answering.put_out (CheckAnswers folder failed file) faults_of_out faults_of_err status.Done accepted_line out out' err result nothing ((text, is), refl, refl) s
 
-  module _ (out err err' : outside.Told) (result : Status) (nothing : told_after out [] ≡ out) where
-    abbrev Concludes : Type 0
-    Concludes = IsAnswered (CheckAnswers folder failed file) faults_of_out faults_of_err out out err err' result
-
-    said_so : (answer : Status) (line : List ℕ) → CheckAnswers folder failed file answer [] line → Said answer line result err err' faults_of_err → Concludes
-    said_so answer line h s =
-        answering.said_alone (CheckAnswers folder failed file) (λ gained said x. x) faults_of_out faults_of_err answer line out err err' result nothing h s
-
-    told : (why : Declined) → IsDeclined folder failed file why → Said (status_of why) (line_of file why) result err err' faults_of_err → Concludes
-    told declined.ReadFault h s = said_so status.ReadFault (read_line file) (h, refl, refl) s
-    told declined.TooLong h s = said_so status.Refused (too_long_line file) (refl, inr (h, refl)) s
-    told (declined.Refused lines) h s = said_so status.Refused lines (refl, inl h) s
-    told declined.Memory h s = said_so status.Memory memory_line (refl, refl) s
-
-    -- a file that is declined, however it was said
-    pub declined_said : (why : Declined) → IsDeclined folder failed file why → IsDeclinedSo file why result err err' faults_of_err → Concludes
-    declined_said why h (inl s) = told why h s
-    declined_said why h (inr s) = said_so status.Memory memory_line (refl, refl) s
+  -- a file that is declined
+  pub declined_checked : (answer : Status) (gained said : List ℕ) → DeclinedAnswers folder failed file answer gained said → CheckAnswers folder failed file answer gained said
+  declined_checked status.Refused gained said h = h
+  declined_checked status.Memory gained said h = h
+  declined_checked status.ReadFault gained said h = h
+  declined_checked status.Done gained said h = absurd h
+  declined_checked status.Usage gained said h = h
+  declined_checked status.Trapped gained said h = h
+  declined_checked status.OutOfSteps gained said h = h
+  declined_checked status.WriteFault gained said h = h
+  declined_checked status.BadModule gained said h = h

@@ -11,7 +11,7 @@ use Rattle.wasm_form.specs.declared.module.Module.{Module}
 use Rattle.wasm_form.specs.Bytes.{ModuleBytes}
 use Rattle.wasm_form.specs.Steps.{Outcome, Ended, Trapped, Running, machine_run}
 use Rattle.wasm_read.specs.Laws.{SpellOne}
-use Rattle.own_tool.specs.Headline.{Told, IsContent, Meaning, WholeOrCut, IsAnswered}
+use Rattle.own_tool.specs.Headline.{Told, Holding, IsContent, Meaning, WholeOrCut, IsAnswered}
 use Rattle.own_tool.specs.Exec.{MOST_MODULE_BYTES, Executes, IsBadModule, ExecAnswers, HoldsModule, status_of_outcome, IsRunOrMemory}
 use Rattle.own_tool.specs.Commands.{Answers, CommandAnswers, RunsModules}
 
@@ -26,8 +26,9 @@ whole_of means fo fe status.OutOfSteps gained said out_intact err_intact h = h
 whole_of means fo fe status.Memory gained said out_intact err_intact h = h
 whole_of means fo fe status.ReadFault gained said out_intact err_intact h = h
 whole_of means fo fe status.BadModule gained said out_intact err_intact h = h
-whole_of means fo fe status.WriteFault gained said out_intact err_intact (answer, wanted, line, h, inl cut) = absurd (out_intact cut.0)
-whole_of means fo fe status.WriteFault gained said out_intact err_intact (answer, wanted, line, h, inr cut) = absurd (err_intact cut.0)
+whole_of means fo fe status.WriteFault gained said out_intact err_intact (inl h) = h
+whole_of means fo fe status.WriteFault gained said out_intact err_intact (inr (answer, wanted, line, h, inl cut)) = absurd (out_intact cut.0)
+whole_of means fo fe status.WriteFault gained said out_intact err_intact (inr (answer, wanted, line, h, inr cut)) = absurd (err_intact cut.0)
 
 some_is : (x : Option (List ℕ)) (a b : List ℕ) → x ≡ Some a → x ≡ Some b → a ≡ b
 some_is x a b h k = let e : Some a ≡ Some b = sym h ∙ k in cc
@@ -35,7 +36,7 @@ some_is x a b h k = let e : Some a ≡ Some b = sym h ∙ k in cc
 none_is_some : (x : Option (List ℕ)) (a : List ℕ) → x ≡ None → x ≡ Some a → ⊥
 none_is_some x a h k = let e : None ≡ Some a = sym h ∙ k in cc
 
-module _ (folder : Told) (failed : Type 0) (file bytes : List ℕ) (steps : ℕ) (input : List ℤ) (m : Module) (one : SpellOne) (holds : HoldsModule folder file bytes m) where
+module _ (folder : Told) (after : Holding) (failed : Type 0) (file bytes : List ℕ) (steps : ℕ) (input : List ℤ) (m : Module) (one : SpellOne) (holds : HoldsModule folder file bytes m) where
   is_bytes : (other : List ℕ) → IsContent folder file other → other ≡ bytes
   is_bytes other content = some_is (folder.held file) other bytes (content holds.tells) holds.content
 
@@ -73,16 +74,16 @@ module _ (folder : Told) (failed : Type 0) (file bytes : List ℕ) (steps : ℕ)
 
   -- whatever the words were read as, they are this command
   pub words_run : (words : List (List ℕ)) (answer : Status) (gained said : List ℕ) → WordsOne → Words words (command.Exec file steps input) → (failed → ⊥)
-      → Answers folder failed words answer gained said → IsRunOrMemory m steps input answer
+      → Answers folder after failed words answer gained said → IsRunOrMemory m steps input answer
   words_run words answer gained said only is intact (inl (c, read, h)) =
       let same : c ≡ command.Exec file steps input = only words c (command.Exec file steps input) read is in
-      exec_runs answer gained said intact (subst (λ d. CommandAnswers folder failed d answer gained said) same h)
+      exec_runs answer gained said intact (subst (λ d. CommandAnswers folder after failed d answer gained said) same h)
   words_run words answer gained said only is intact (inr (inl (none, usage))) = absurd (none (command.Exec file steps input) is)
   words_run words answer gained said only is intact (inr (inr unread)) = inr unread.status_is
 
-pub modules_run : (folder : Told) (failed faults_of_out faults_of_err : Type 0) (words : List (List ℕ)) (out out' err err' : outside.Told) (answer : Status)
+pub modules_run : (folder : Told) (after : Holding) (failed faults_of_out faults_of_err : Type 0) (words : List (List ℕ)) (out out' err err' : outside.Told) (answer : Status)
     → WordsOne → SpellOne → (failed → ⊥) → (faults_of_out → ⊥) → (faults_of_err → ⊥)
-    → IsAnswered (Answers folder failed words) faults_of_out faults_of_err out out' err err' answer → RunsModules folder words answer
-modules_run folder failed fo fe words out out' err err' answer only one intact out_intact err_intact a = λ file bytes steps input m is holds.
-    words_run folder failed file bytes steps input m one holds words answer a.0 a.1 only is intact
-    (whole_of (Answers folder failed words) fo fe answer a.0 a.1 out_intact err_intact a.4)
+    → IsAnswered (Answers folder after failed words) faults_of_out faults_of_err out out' err err' answer → RunsModules folder words answer
+modules_run folder after failed fo fe words out out' err err' answer only one intact out_intact err_intact a = λ file bytes steps input m is holds.
+    words_run folder after failed file bytes steps input m one holds words answer a.0 a.1 only is intact
+    (whole_of (Answers folder after failed words) fo fe answer a.0 a.1 out_intact err_intact a.4)

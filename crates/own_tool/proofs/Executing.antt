@@ -55,7 +55,7 @@ module _ (folder : Told) (faults : Type 0) (file : List ℕ) (steps : ℕ) (inpu
 
   answered : (answer : Status) (gained line : List ℕ) → ExecAnswers folder faults file steps input answer gained line
       → out' ≡ told_after out gained → Said answer line result err err' faults_of_err → Concludes
-  answered answer gained line = answering.answered (ExecAnswers folder faults file steps input) (λ gained said h. h) (HasRisen count count') faults_of_err answer gained line out out' err err' result
+  answered answer gained line = answering.answered (ExecAnswers folder faults file steps input) (HasRisen count count') faults_of_err answer gained line out out' err err' result
 
   unchanged : out' ≡ out → out' ≡ told_after out []
   unchanged same = same ∙ sym nothing
@@ -82,7 +82,7 @@ module _ (folder : Told) (faults : Type 0) (file : List ℕ) (steps : ℕ) (inpu
         answered status.OutOfSteps (machine_run m input steps).0 steps_line ((bytes, m, content, short, spells, pair_is (machine_run m input steps) _ h.0), refl) h.1 s
     run_told ran.SinkFault h s =
         let w = wanted (machine_run m input steps).1 refl in
-        answering.cut_off (ExecAnswers folder faults file steps input) (λ gained said x. x) (HasRisen count count') faults_of_err w.0 (machine_run m input steps).0 h.1.0 w.1 out out' err err' result
+        answering.cut_off (ExecAnswers folder faults file steps input) (HasRisen count count') faults_of_err w.0 (machine_run m input steps).0 h.1.0 w.1 out out' err err' result
         w.2 h.0 ((h.1.1, h.1.2), h.1.3) h.1.4 s
 
     -- memory was refused for the line, when the output stands

@@ -1,6 +1,9 @@
 pub mod Answering
-pub mod Judging
+pub mod Moving
+pub mod Declining
 pub mod Checking
+pub mod Building
+pub mod Running
 pub mod Executing
 pub mod Naming
 pub mod Obeying

@@ -1,40 +1,34 @@
 -- What a call answers, by its words.
-use Rattle.std.specs.Prelude.{◌≡◌, ℕ, ◌⊎◌, ◌==◌, ℤ, Bool, true, false, IsUtf8, List, [], Option, None}
+use Rattle.std.specs.Prelude.{◌≡◌, ℕ, ◌⊎◌, ℤ, Bool, true, false, IsUtf8, List, [], Option, Some, None}
 use Rattle.own_tree.specs.declared.command.Command.{Command}
 use Rattle.own_tree.specs.declared.command.Command.TheVariants as command
 use Rattle.own_tree.specs.declared.status.Status.{Status}
 use Rattle.own_tree.specs.declared.status.Status.TheVariants as status
 use Rattle.own_words.specs.Words.{Words}
 use Rattle.own_tool.specs.Texts.{memory_line}
-use Rattle.own_tool.specs.Headline.{DEFAULT_STEPS, Told, Meaning, FileAnswers, IsUsage}
+use Rattle.own_tool.specs.Headline.{Told, Holding, IsOther, IsTextIfAny, Meaning, IsUsage}
+use Rattle.own_tool.specs.Build.{BuildAnswers}
 use Rattle.own_tool.specs.Check.{CheckAnswers}
 use Rattle.own_tool.specs.Exec.{ExecAnswers, HoldsModule, IsRunOrMemory}
+use Rattle.own_tool.specs.Run.{RunAnswers}
 use Rattle.wasm_form.specs.declared.module.Module.{Module}
-
--- of `run` a file alone is served so far
-abbrev pub is_file_alone : (out : Option (List ℕ)) → (steps : ℕ) → (trace : Bool) → (input : List ℤ) → Bool
-is_file_alone None steps false [] = steps == DEFAULT_STEPS
-is_file_alone out steps trace input = false
 
 -- which commands are served so far
 abbrev pub is_served : Command → Bool
-is_served (command.Check file) = true
-is_served (command.Run file out steps trace input) = is_file_alone out steps trace input
-is_served (command.Exec file steps input) = true
-is_served other = false
-
-abbrev pub RunAnswers : Told → (faults : Type 0) → (file : List ℕ) → (served : Bool) → Meaning
-RunAnswers folder faults file true answer gained said = FileAnswers folder faults file answer gained said
-RunAnswers folder faults file false answer gained said = IsUsage answer gained said
+is_served (command.Selftest number size) = false
+is_served other = true
 
 -- a command that is not served yet is answered as words that are none
-abbrev pub CommandAnswers : Told → (faults : Type 0) → Command → Meaning
-CommandAnswers folder faults (command.Check file) answer gained said = CheckAnswers folder faults file answer gained said
-CommandAnswers folder faults (command.Run file out steps trace input) answer gained said =
-    RunAnswers folder faults file (is_file_alone out steps trace input) answer gained said
-CommandAnswers folder faults (command.Exec file steps input) answer gained said =
+abbrev pub CommandAnswers : Told → (after : Holding) → (faults : Type 0) → Command → Meaning
+CommandAnswers folder after faults (command.Check file) answer gained said =
+    CheckAnswers folder faults file answer gained said
+CommandAnswers folder after faults (command.Build file out trace) answer gained said =
+    BuildAnswers folder after faults file out answer gained said
+CommandAnswers folder after faults (command.Run file out steps trace input) answer gained said =
+    RunAnswers folder after file out steps input faults answer gained said
+CommandAnswers folder after faults (command.Exec file steps input) answer gained said =
     ExecAnswers folder faults file steps input answer gained said
-CommandAnswers folder faults other answer gained said = IsUsage answer gained said
+CommandAnswers folder after faults (command.Selftest number size) answer gained said = IsUsage answer gained said
 
 abbrev pub IsNoCommand : List (List ℕ) → Type 0
 IsNoCommand words = (c : Command) → Words words c → ⊥
@@ -45,9 +39,9 @@ pub record IsUnread (answer : Status) (gained said : List ℕ) : Type 0 where
   pub gained_is : gained ≡ []
   pub said_is : said ≡ memory_line
 
-abbrev pub Answers : Told → (faults : Type 0) → (words : List (List ℕ)) → Meaning
-Answers folder faults words answer gained said =
-    ((c : Command) × Words words c × CommandAnswers folder faults c answer gained said)
+abbrev pub Answers : Told → (after : Holding) → (faults : Type 0) → (words : List (List ℕ)) → Meaning
+Answers folder after faults words answer gained said =
+    ((c : Command) × Words words c × CommandAnswers folder after faults c answer gained said)
     ⊎ (IsNoCommand words × IsUsage answer gained said)
     ⊎ IsUnread answer gained said
 
@@ -62,10 +56,20 @@ RunsModules folder words answer =
 abbrev pub IsNotServed : List (List ℕ) → Type 0
 IsNotServed words = (c : Command) → Words words c → is_served c ≡ false
 
--- the name of a command's file is text
+-- the name that a command saves a module under, if any
+abbrev pub saved_of : Command → Option (List ℕ)
+saved_of (command.Build file out trace) = Some out
+saved_of (command.Run file out steps trace input) = out
+saved_of other = None
+
+-- a name that the words save nothing under
+abbrev pub IsLeft : List (List ℕ) → (name : List ℕ) → Type 0
+IsLeft words name = (c : Command) → Words words c → IsOther (saved_of c) name
+
+-- the names of a command's files are text
 abbrev pub NamesText : Command → Type 0
 NamesText (command.Check file) = IsUtf8 file
-NamesText (command.Build file out trace) = IsUtf8 file
-NamesText (command.Run file out steps trace input) = IsUtf8 file
+NamesText (command.Build file out trace) = IsUtf8 file × IsUtf8 out
+NamesText (command.Run file out steps trace input) = IsUtf8 file × IsTextIfAny out
 NamesText (command.Exec file steps input) = IsUtf8 file
 NamesText (command.Selftest number size) = Unit {0}

@@ -1,5 +1,5 @@
 -- Why nothing is done with a file, before its line is said: how that is answered, and what it says of the file.
-use Rattle.std.specs.Prelude.{◌≡◌, ℕ, ◌⊎◌, IsTrue, List, None, Result, Ok, Err}
+use Rattle.std.specs.Prelude.{◌≡◌, ℕ, ◌⊎◌, IsTrue, List, [], None, Result, Ok, Err}
 use Rattle.std.specs.declared.alloc.AllocError.{AllocError}
 use Rattle.own_tree.specs.declared.status.Status.{Status}
 use Rattle.own_tree.specs.declared.status.Status.TheVariants as status
@@ -8,8 +8,8 @@ use Rattle.own_tool.specs.declared.check.Accepted.{Accepted}
 use Rattle.own_tool.specs.declared.check.Declined.{Declined}
 use Rattle.own_tool.specs.declared.check.Declined.TheVariants as declined
 use Rattle.own_tool.specs.Texts.{memory_line, read_line, too_long_line}
-use Rattle.own_tool.specs.Headline.{Told}
-use Rattle.own_tool.specs.Check.{AreRefusals, IsText, IsLongText}
+use Rattle.own_tool.specs.Headline.{Told, IsReadFault, Meaning}
+use Rattle.own_tool.specs.Check.{AreRefusals, IsText, IsLongText, IsUnaccepted}
 use Rattle.own_tool.specs.Saying.{Said}
 
 abbrev pub status_of : Declined → Status
@@ -48,6 +48,18 @@ module _ (folder : Told) (failed : Type 0) (file : List ℕ) where
 abbrev pub TextIsOpened : (file text : List ℕ) → Result Accepted Declined → Type 0
 TextIsOpened file text (Ok accepted) = accepted.text ≡ text
 TextIsOpened file text (Err why) = IsDeclinedText file text why
+
+-- what is answered of a file with which nothing is done
+abbrev pub DeclinedAnswers : Told → (faults : Type 0) → (file : List ℕ) → Meaning
+DeclinedAnswers folder faults file status.Refused gained said = IsUnaccepted folder file gained said
+DeclinedAnswers folder faults file status.Memory gained said = (gained ≡ []) × (said ≡ memory_line)
+DeclinedAnswers folder faults file status.ReadFault gained said = IsReadFault folder faults file gained said
+DeclinedAnswers folder faults file status.Done gained said = ⊥
+DeclinedAnswers folder faults file status.Usage gained said = ⊥
+DeclinedAnswers folder faults file status.Trapped gained said = ⊥
+DeclinedAnswers folder faults file status.OutOfSteps gained said = ⊥
+DeclinedAnswers folder faults file status.WriteFault gained said = ⊥
+DeclinedAnswers folder faults file status.BadModule gained said = ⊥
 
 -- it was said, or memory was refused for its line
 abbrev pub IsDeclinedSo : (file : List ℕ) → Declined → Status → (old new : outside.Told) → (faults : Type 0) → Type 0

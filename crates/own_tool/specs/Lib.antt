@@ -1,9 +1,12 @@
 pub mod Texts
 pub mod Headline
 pub mod Saying
-pub mod Judged
 pub mod Check
 pub mod Declined
+pub mod Build
+pub mod Delivered
 pub mod Exec
 pub mod Executed
+pub mod Run
+pub mod Launched
 pub mod Commands

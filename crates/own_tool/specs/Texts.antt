@@ -26,12 +26,13 @@ accepted_line = line_of (codes "accepted")
 abbrev pub read_line : List ℕ → List ℕ
 read_line file = codes "cannot read " ++ file ++ line_of []
 
--- the refusal of a text that is too long, and of one that is not built yet
+-- what `build` writes where a module is saved: how many flags it keeps as it runs
+abbrev pub flags_line : ℕ → List ℕ
+flags_line flags = codes "flags " ++ decimal flags ++ line_of []
+
+-- the refusal of a text that is too long
 abbrev pub too_long_line : List ℕ → List ℕ
 too_long_line file = file ++ line_of (codes ": error[M1]: text bytes: more than 1048576")
-
-abbrev pub not_built_line : List ℕ → List ℕ
-not_built_line file = file ++ line_of (codes ": error[Z1]: not built yet")
 
 abbrev pub trap_text : ℕ → List ℕ
 trap_text code =

@@ -32,7 +32,7 @@ pub(crate) enum Executed {
 }
 
 /// The status of a run.
-fn status_of_run(ran: Ran) -> Status
+pub(crate) fn status_of_run(ran: Ran) -> Status
     ensures { result ≡ spec.status_of_run ran }
 {
     match ran {
@@ -82,7 +82,7 @@ fn line_of(alloc: Global, file: &str, executed: Executed) -> Result<Bytes, Alloc
 }
 
 /// Runs a module: at most so many steps, on this input.
-pub(crate) fn run_module<K: Sink>(
+fn run_module<K: Sink>(
     alloc: Global,
     code: &Module,
     steps: u64,

@@ -1,9 +1,11 @@
 //! The top call of the program.
 #![tactic(auto)]
 
+mod build;
 mod check;
 mod exec;
-mod judged;
+mod name;
+mod run;
 mod saying;
 mod texts;
 mod tool;

@@ -4,7 +4,7 @@ ghost use Rattle.std.specs.Prelude.{◌≡◌, ◌≤◌, ◌++◌, length, IfOk
 ghost use Rattle.std.specs.Fmt.{decimal};
 ghost use Rattle.own_report.specs.Place.{place_at};
 ghost use Rattle.own_report.specs.Lines.{place_after};
-ghost use Rattle.own_tool.specs.Texts.{read_line, too_long_line, not_built_line, steps_line};
+ghost use Rattle.own_tool.specs.Texts.{read_line, too_long_line, flags_line, steps_line};
 ghost use Rattle.own_tool.specs.Texts.{trap_after, trap_line, trap_text, exec_trap_line};
 ghost use Rattle.own_tool.specs.Texts.{too_long_module_line, outside_text, limit_text, fault_after, bad_module_line};
 
@@ -25,10 +25,10 @@ pub(crate) fn too_long_line(alloc: Global, file: &str) -> Result<String, AllocEr
     format!(in alloc; "{file}: error[M1]: text bytes: more than 1048576\n")
 }
 
-pub(crate) fn not_built_line(alloc: Global, file: &str) -> Result<String, AllocError>
-    ensures { IfOk result (λ line. string_bytes line ≡ not_built_line file.now) }
+pub(crate) fn flags_line(alloc: Global, flags: usize) -> Result<String, AllocError>
+    ensures { IfOk result (λ line. string_bytes line ≡ flags_line flags) }
 {
-    format!(in alloc; "{file}: error[Z1]: not built yet\n")
+    format!(in alloc; "flags {flags}\n")
 }
 
 pub(crate) fn steps_line(alloc: Global) -> Result<String, AllocError>

@@ -1,9 +1,0 @@
-pub mod Scoped
-pub mod Places
-pub mod Uses
-pub mod Traces
-pub mod Findings
-pub mod Run
-pub mod Once
-pub mod Marks
-pub mod Laws

@@ -1,5 +1,0 @@
-use Rattle.std.proofs.Common.{length}
-use Rattle.own_second.proofs.lower.+push_ends.Given as goal
-
-abbrev pub decreases-push_ends : goal.decreases-push_ends
-decreases-push_ends l = length l.locals.now
