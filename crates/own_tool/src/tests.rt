@@ -44,13 +44,24 @@ fn answers<R: Abort + Alloc<A = std::alloc::Global>>(
     if let (Some(text), [_, file, ..]) = (case.text, case.words) {
         folder.put(file, text)?;
     }
+    answers_in(rt, case, &mut folder, faults)
+}
+
+/// The same with what a folder holds.
+fn answers_in<R: Abort + Alloc<A = std::alloc::Global>>(
+    rt: &R,
+    case: &Case,
+    folder: &mut MemoryFolder,
+    faults: Faults,
+) -> Result<(), Fail> {
+    let alloc = rt.alloc();
     let mut words = Vec::new(alloc);
     for word in case.words {
         words.push(String::from_str(alloc, word)?)?;
     }
     let mut out = MemorySink::new(alloc, 4096, Row::from_slice(alloc, &[faults.out])?)?;
     let mut err = MemorySink::new(alloc, 4096, Row::from_slice(alloc, &[faults.err])?)?;
-    let status = swiftown(alloc, words.as_slice(), &mut folder, &mut out, &mut err);
+    let status = swiftown(alloc, words.as_slice(), folder, &mut out, &mut err);
     assert_eq!(rt; status, case.status);
     assert_eq!(rt; out.written(), case.out.as_bytes());
     assert_eq!(rt; err.written(), case.err.as_bytes());
@@ -88,7 +99,7 @@ fn each_status_has_its_texts(rt: HostRuntime) -> Result<(), Fail> {
             words: RUN,
             status: Status::Refused,
             out: "",
-            err: "a.swift: error[Z1]: not built yet\n",
+            err: "a.swift:1:1: error[S1]: syntax\n",
         },
         Case {
             text: None,
@@ -232,6 +243,205 @@ fn faults_of_check_are_told(rt: HostRuntime) -> Result<(), Fail> {
     )
 }
 
+/// What `run` answers to a text with these words behind its file.
+fn runs(
+    text: &'static [u8],
+    words: &'static [&'static str],
+    status: Status,
+    out: &'static str,
+    err: &'static str,
+) -> Case {
+    Case {
+        text: Some(text),
+        words,
+        status,
+        out,
+        err,
+    }
+}
+
+const DIVIDING: &[u8] = b"func main() {\n  let n = readInt()\n  print(6 / n)\n}\nmain()\n";
+
+const CALLING: &[u8] = b"func f() { f() }\nfunc main() { f() }\nmain()\n";
+
+const COUNTING: &[u8] =
+    b"func main() {\n  let n = readInt()\n  for i in 1...n { print(i) }\n}\nmain()\n";
+
+/// A value is passed on where its first number is above 0, and each has ended once at the end.
+const PASSING: &[u8] =
+    b"struct A: ~Copyable {\n  let n: Int\n  deinit { print(\"end\", n) }\n}\nfunc take(_ a: consuming A) { print(\"take\", a.n) }\nfunc main() {\n  let x = A(n: readInt())\n  if readInt() > 0 { take(x) }\n  print(\"done\")\n}\nmain()\n";
+
+#[test]
+fn run_takes_input_and_steps(rt: HostRuntime) -> Result<(), Fail> {
+    let cases = [
+        runs(
+            DIVIDING,
+            &["run", "a.swift", "--", "-3"],
+            Status::Done,
+            "-2\n",
+            "",
+        ),
+        runs(
+            DIVIDING,
+            RUN,
+            Status::Trapped,
+            "",
+            "a.swift:3:11: trap 2: division by zero\n",
+        ),
+        runs(
+            COUNTING,
+            &["run", "a.swift", "2"],
+            Status::Done,
+            "1\n2\n",
+            "",
+        ),
+        runs(
+            COUNTING,
+            &["run", "a.swift", "--", "-1"],
+            Status::Trapped,
+            "",
+            "a.swift:3:13: trap 4: range ends before it begins\n",
+        ),
+        runs(
+            COUNTING,
+            &["run", "a.swift", "2", "--steps=0"],
+            Status::OutOfSteps,
+            "",
+            "out of steps\n",
+        ),
+    ];
+    for case in &cases {
+        answers(&rt, case, NONE)?;
+    }
+    Ok(())
+}
+
+#[test]
+fn a_call_too_deep_is_a_trap_without_a_place(rt: HostRuntime) -> Result<(), Fail> {
+    let case = runs(
+        CALLING,
+        RUN,
+        Status::Trapped,
+        "",
+        "a.swift: trap 3: too many levels\n",
+    );
+    answers(&rt, &case, NONE)
+}
+
+#[test]
+fn a_value_that_is_passed_on_ends_once(rt: HostRuntime) -> Result<(), Fail> {
+    let cases = [
+        runs(
+            PASSING,
+            &["run", "a.swift", "7", "1"],
+            Status::Done,
+            "take 7\nend 7\ndone\n",
+            "",
+        ),
+        runs(
+            PASSING,
+            &["run", "a.swift", "7", "0"],
+            Status::Done,
+            "done\nend 7\n",
+            "",
+        ),
+        runs(
+            PASSING,
+            &["run", "a.swift", "--trace", "7", "0"],
+            Status::Done,
+            "made A #1\ndone\nend 7\nended A #1 by deinit\n",
+            "",
+        ),
+    ];
+    for case in &cases {
+        answers(&rt, case, NONE)?;
+    }
+    Ok(())
+}
+
+const BUILD: &[&str] = &["build", "a.swift", "-o", "m.wasm"];
+
+const SAVE: &[&str] = &["run", "a.swift", "-o", "m.wasm", "2"];
+
+/// What is saved under a name runs as the text does, and stays where a text is refused.
+#[test]
+fn modules_are_saved_and_run(rt: HostRuntime) -> Result<(), Fail> {
+    let alloc = rt.alloc();
+    let mut folder = MemoryFolder::new(alloc, Row::new(alloc));
+    folder.put("a.swift", COUNTING)?;
+    folder.put("b.swift", b"func main() {")?;
+    let executed = Case {
+        text: None,
+        words: &["exec", "m.wasm", "3"],
+        status: Status::Done,
+        out: "1\n2\n3\n",
+        err: "",
+    };
+    let cases = [
+        runs(COUNTING, BUILD, Status::Done, "flags 0\n", ""),
+        executed,
+        runs(COUNTING, SAVE, Status::Done, "1\n2\n", ""),
+        executed,
+        runs(
+            b"",
+            &["build", "b.swift", "-o", "m.wasm"],
+            Status::Refused,
+            "",
+            "b.swift:1:14: error[S1]: syntax\n",
+        ),
+        executed,
+    ];
+    for case in &cases {
+        answers_in(&rt, case, &mut folder, NONE)?;
+    }
+    Ok(())
+}
+
+/// Each call of the folder and of the two sinks that `build` and `run` make, failing in turn.
+#[test]
+fn faults_of_build_and_run_are_told(rt: HostRuntime) -> Result<(), Fail> {
+    let cases = [
+        (
+            runs(
+                COUNTING,
+                BUILD,
+                Status::ReadFault,
+                "",
+                "cannot read a.swift\n",
+            ),
+            Faults { folder: 1, ..NONE },
+        ),
+        (
+            runs(COUNTING, BUILD, Status::WriteFault, "", ""),
+            Faults { folder: 2, ..NONE },
+        ),
+        (
+            runs(COUNTING, BUILD, Status::WriteFault, "", ""),
+            Faults { out: 1, ..NONE },
+        ),
+        (
+            runs(COUNTING, SAVE, Status::WriteFault, "", ""),
+            Faults { folder: 2, ..NONE },
+        ),
+        (
+            runs(COUNTING, SAVE, Status::WriteFault, "", ""),
+            Faults { out: 1, ..NONE },
+        ),
+        (
+            runs(DIVIDING, RUN, Status::WriteFault, "", ""),
+            Faults { err: 1, ..NONE },
+        ),
+        (
+            runs(b"", BUILD, Status::WriteFault, "", ""),
+            Faults { err: 1, ..NONE },
+        ),
+    ];
+    for (case, faults) in &cases {
+        answers(&rt, case, *faults)?;
+    }
+    Ok(())
+}
+
 #[test]
 fn each_use_of_a_consumed_name_is_named(rt: HostRuntime) -> Result<(), Fail> {
     let cases = [
@@ -351,7 +561,6 @@ fn a_text_has_at_most_1048576_bytes(rt: HostRuntime) -> Result<(), Fail> {
     let alloc = rt.alloc();
     let too_long = "a.swift: error[M1]: text bytes: more than 1048576\n";
     let cases = [
-        ("run", MOST_TEXT_BYTES, Status::Done, "", ""),
         ("run", MOST_TEXT_BYTES + 1, Status::Refused, "", too_long),
         ("check", MOST_TEXT_BYTES, Status::Done, "accepted\n", ""),
         ("check", MOST_TEXT_BYTES + 1, Status::Refused, "", too_long),
@@ -553,8 +762,8 @@ fn other_words_are_answered_by_the_usage(rt: HostRuntime) -> Result<(), Fail> {
         &["exec"],
         &["exec", "m.wasm", "--step", "1"],
         &["exec", "m.wasm", "-1"],
-        &["build", "m.wasm", "-o", "n.wasm"],
-        &["run", "m.wasm", "--steps", "1"],
+        &["build", "m.wasm"],
+        &["run", "m.wasm", "--steps", "-1"],
         &["selftest", "1", "1"],
     ];
     for words in words {
